@@ -1,0 +1,7 @@
+pub mod OnLine
+pub mod Moments
+pub mod Stored
+pub mod LivesLaw
+pub mod Ready
+pub mod Compose
+pub mod Replaying

@@ -1,0 +1,51 @@
+-- What is stored stays so while a step is issued.
+use Rattle.std.proofs.Common.{◌≡◌, ◌⊎◌, inl, inr, ⊎_elim, ℕ, ◌≤◌, List, [], ◌∷◌, ◌++◌, length, map, Option, Some, None, IsTrue, IsSome, refl, sym, ◌∙◌, ap, subst, arith, append_assoc}
+use Rattle.std.proofs.lemmas.List.{append-nil, map-append}
+use Rattle.board_core.specs.declared.step.Step.{Step}
+use Rattle.board_core.specs.declared.step.Told.{Told}
+use Rattle.board_core.specs.Board.{BoardView, Left, LeftNow, IsSound, Issues, LeavesOnly}
+use Rattle.pef_engine.specs.declared.entry.Entry.{Entry}
+use Rattle.pef_journal.specs.Image as image
+use Rattle.pef_journal.specs.Journal.{IsAt, IsAtEnd}
+use Rattle.pef_journal.specs.declared.journal.Journal.{Journal}
+use Rattle.pef_engine.specs.Rules.{Rules, Allowed, LawfulFrom, Lawful, Stands}
+use Rattle.pef_engine.specs.Lines.{LeavesPrefix}
+use Rattle.pef_engine.proofs.Moments.{leaves_start}
+
+-- the same octets and images
+pub at_end_along : (kind : ℕ) (Z : List ℕ) (es : List (List ℕ)) (v w : BoardView) (journal : Journal) → w.octets ≡ v.octets → ((c : List ℕ) → w.images c → v.images c) → IsAtEnd kind Z es v journal → IsAtEnd kind Z es w journal
+at_end_along kind Z es v w journal octets images old = record {
+  at = record {
+    rest = old.at.rest;
+    file = subst (λ f. image.HasHeader kind Z (image.blocks es ++ old.at.rest) f) (sym octets) old.at.file;
+    place = old.at.place;
+    file_length = old.at.file_length ∙ ap length (sym octets);
+    left = old.at.left;
+    stands = subst (λ f. image.Stands kind Z (es ++ []) f) (sym octets) old.at.stands;
+    lasting = λ c now. old.at.lasting c (images c now) ∙ sym octets;
+  };
+  ended = old.ended;
+}
+
+pub images_stand : (kind : ℕ) (Z : List ℕ) (es : List (List ℕ)) (v : BoardView) (journal : Journal) → IsAtEnd kind Z es v journal → (c : List ℕ) → v.images c → image.Stands kind Z es c
+images_stand kind Z es v journal at c now =
+    subst (λ f. image.Stands kind Z es f) (sym (at.at.lasting c now)) (subst (λ (l : List (List ℕ)). image.Stands kind Z l v.octets) (append-nil es) at.at.stands)
+
+module _ {I : Type 0} (rules : Rules I) (Z : List ℕ) where
+  pub lawful_from-append : (G H : List (Entry I)) (e : Entry I) → LawfulFrom rules Z G H → Allowed rules Z (G ++ H) e → LawfulFrom rules Z G (H ++ e ∷ [])
+  lawful_from-append G [] e lawful allowed = (subst (λ g. Allowed rules Z g e) (append-nil G) allowed, tt)
+  lawful_from-append G (x ∷ H) e lawful allowed =
+      (lawful.0, lawful_from-append (G ++ x ∷ []) H e lawful.1 (subst (λ g. Allowed rules Z g e) (sym (append_assoc G (x ∷ []) H)) allowed))
+
+  pub lawful-append : (H : List (Entry I)) (e : Entry I) → Lawful rules Z H → Allowed rules Z H e → Lawful rules Z (H ++ e ∷ [])
+  lawful-append H e lawful allowed = lawful_from-append [] H e lawful allowed
+
+  -- a call that does nothing
+  pub nothing_moments : (H : List (Entry I)) (v : BoardView) (items : List I) → IsSound v → IsTrue v.tells → ((c : List ℕ) → v.images c → Stands rules Z H c) → LeavesOnly v v (LeavesPrefix rules Z H v items)
+  nothing_moments H v items sound tells stands = record {
+    later = omega arith;
+    each = λ left since.
+        let now = sound.only_now tells left since in
+        leaves_start rules Z H v items left (record { issued = now.issued; told = now.told }) (stands left.image now.image);
+    before = λ t left le since. inl since;
+  }

@@ -1,0 +1,5 @@
+pub mod Rules
+pub mod MachineView
+pub mod Lines
+pub mod Lives
+pub mod Engine

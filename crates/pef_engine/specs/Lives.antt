@@ -1,0 +1,41 @@
+-- Several lives of one file, each cut at any moment or returned.
+use Rattle.std.specs.Prelude.{◌≡◌, ◌⊎◌, ⊤, ℕ, zero, suc, List, [], ◌∷◌, ◌++◌, length, Option, Some, None}
+use Rattle.board_core.specs.declared.step.Step.{Step}
+use Rattle.pef_engine.specs.declared.entry.Entry.{Entry}
+use Rattle.pef_engine.specs.Rules.{Rules, LawfulFrom}
+use Rattle.pef_engine.specs.Lines.{Kept, prescribed}
+
+-- what one life stored, and the steps that it issued
+pub record Life (I : Type 0) : Type 0 where
+  pub stored : List (Entry I)
+  pub steps : List Step
+
+abbrev pub AreLives : {I : Type 0} → Rules I → List ℕ → List (Entry I) → List (Life I) → Type 0
+AreLives rules Z H [] = ⊤
+AreLives rules Z H (life ∷ lives) = LawfulFrom rules Z H life.stored × Kept rules Z H life.stored life.steps × AreLives rules Z (H ++ life.stored) lives
+
+abbrev pub steps_of_lives : {I : Type 0} → List (Life I) → List Step
+steps_of_lives [] = []
+steps_of_lives (life ∷ lives) = life.steps ++ steps_of_lives lives
+
+abbrev pub last_history : {I : Type 0} → List (Entry I) → List (Life I) → List (Entry I)
+last_history H [] = H
+last_history H (life ∷ lives) = last_history (H ++ life.stored) lives
+
+-- the list begins with this
+abbrev pub BeginsWith : {A : Type 0} → A → List A → Type 0
+BeginsWith x [] = ⊥
+BeginsWith x (y ∷ ys) = y ≡ x
+
+-- thinned is steps without at most n of them, each of which equals the one right behind it
+abbrev pub Thins : {A : Type 0} → ℕ → List A → List A → Type 0
+Thins n [] thinned = thinned ≡ []
+Thins {A} n (x ∷ steps) thinned =
+    ((rest : List A) × (thinned ≡ x ∷ rest) × Thins n steps rest)
+    ⊎ ((m : ℕ) × (n ≡ suc m) × BeginsWith x steps × Thins m steps thinned)
+
+-- without at most n repeats, the steps are those that the history prescribes, or these and the one that is due
+pub record IsRepeating {I : Type 0} (rules : Rules I) (Z : List ℕ) (n : ℕ) (steps : List Step) (H : List (Entry I)) : Type 0 where
+  pub thinned : List Step
+  pub thins : Thins n steps thinned
+  pub kept : (thinned ≡ prescribed rules Z H) ⊎ ((step : Step) × (rules.pending Z H ≡ Some step) × (thinned ≡ prescribed rules Z H ++ step ∷ []))

@@ -1,0 +1,44 @@
+//! Why a machine or an engine refuses.
+ghost use Rattle.std.specs.Prelude.{◌≡◌, ◌↔◌};
+
+use pef_journal::JournalFault;
+use std::alloc::AllocError;
+
+/// Why a machine isn't ready for an item.
+#[derive(Clone, Copy, Debug, PartialEq, Eq)]
+pub enum MachineFault {
+    /// There is no memory for it.
+    Memory(AllocError),
+    /// The machine's own limit stands against it.
+    Full,
+}
+
+/// Why an engine isn't opened, or an entry isn't stored.
+#[derive(Clone, Copy, Debug, PartialEq, Eq)]
+pub enum EngineFault {
+    /// The octets aren't those of a file of the machine's kind.
+    NotFormatted,
+    /// The gate at this place or the entry behind it doesn't lie within the file, or the entry is none that may come there.
+    Corrupt { at: u64 },
+    /// The disk failed. The engine isn't live any more: the file has the entry in flight or not, and is to be opened again.
+    DiskFault,
+    /// The file or the machine has no room for the entry. Nothing was stored.
+    Full,
+    /// The machine found no memory to get ready. Nothing was stored.
+    Memory(AllocError),
+}
+
+// The engine's word for what stopped the journal.
+pub(crate) fn fault_of(fault: JournalFault) -> EngineFault
+    ensures disk { fault ≡ JournalFault.DiskFault ↔ result ≡ EngineFault.DiskFault }
+    ensures unformatted { fault ≡ JournalFault.NotFormatted ↔ result ≡ EngineFault.NotFormatted }
+    ensures full { fault ≡ JournalFault.Full ↔ result ≡ EngineFault.Full }
+    ensures corrupt { (at : _) → fault ≡ JournalFault.Corrupt at ↔ result ≡ EngineFault.Corrupt at }
+{
+    match fault {
+        JournalFault::NotFormatted => EngineFault::NotFormatted,
+        JournalFault::Corrupt { at } => EngineFault::Corrupt { at },
+        JournalFault::DiskFault => EngineFault::DiskFault,
+        JournalFault::Full => EngineFault::Full,
+    }
+}
