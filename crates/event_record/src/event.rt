@@ -11,7 +11,7 @@ use std::marker::Model;
 
 /// An event record of the system event log: sixteen octets by IPMI 2.0, section 32.1, whose ID
 /// isn't reserved and whose type is 02h (system event) or C0h to FFh (OEM).
-#[derive(Clone, Copy, Debug, Drop)]
+#[derive(Clone, Copy, Debug)]
 pub struct Record {
     octets: [u8; 16],
 }
