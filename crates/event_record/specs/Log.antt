@@ -1,0 +1,22 @@
+-- The system event log as a list of records, in the order in which they were added: IPMI 2.0, chapter 31.
+use Rattle.std.specs.Prelude.{◌≢◌, ℕ, ◌≤◌, ◌==◌, nat_lt, List, length, Option, Some, None, is_some, if◌then◌else◌}
+use Rattle.std.specs.List.{position, AllPairs}
+use Rattle.event_record.specs.Fields.{record_id}
+use Rattle.event_record.specs.declared.fault.LogFault.{LogFault}
+use Rattle.event_record.specs.declared.fault.LogFault.TheVariants.{Duplicate, Full}
+use Rattle.event_record.specs.declared.log.TheConstants.{RECORDS}
+
+-- no two records have one ID, and there are no more than a log has room for
+pub record IsLog (log : List (List ℕ)) : Type 0 where
+  pub within : length log ≤ RECORDS
+  pub distinct : AllPairs (λ older newer. record_id older ≢ record_id newer) log
+
+-- the place of the record with this ID
+abbrev pub place_in : List (List ℕ) → ℕ → Option ℕ
+place_in log id = position (λ event. record_id event == id) log
+
+-- why a record isn't added, where it isn't: its ID is held, or else the log is full
+abbrev pub add_fault : List (List ℕ) → List ℕ → Option LogFault
+add_fault log event =
+    if is_some (place_in log (record_id event)) then Some (Duplicate (record_id event))
+    else (if nat_lt (length log) RECORDS then None else Some Full)
