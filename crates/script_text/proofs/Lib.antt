@@ -1,0 +1,4 @@
+pub mod Read
+pub mod LinesLemmas
+pub mod FormLemmas
+pub mod FormInverse
