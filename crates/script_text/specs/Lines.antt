@@ -17,3 +17,7 @@ lines_of (b ∷ text) =
     if nat_eq b 10 then [] ∷ lines_of text
     else if nat_eq b 13 && begins_with 10 text then lines_of text
     else onto_first b (lines_of text)
+
+-- the longest line in octets, without its end
+abbrev pub line_limit : ℕ
+line_limit = 1200

@@ -1,6 +1,6 @@
 -- What a reader finds in a text.
 use Rattle.std.specs.Prelude.{◌≡◌, ℕ, nat_eq, if◌then◌else◌, ◌<◌, ◌≤◌, List, [], ◌∷◌, ◌++◌, length, Option, Some, None}
-use Rattle.script_text.specs.Lines.{lines_of}
+use Rattle.script_text.specs.Lines.{lines_of, line_limit}
 use Rattle.script_text.specs.declared.reader.Found.{Found}
 use Rattle.script_text.specs.declared.reader.Found.TheVariants.{Line, TooLong, End}
 
@@ -20,14 +20,14 @@ pub record NamesLine (text held : List ℕ) (source : Option (List ℕ)) (line :
   pub rest : List ℕ
   pub left : HasLeft held source rest
   pub lines : lines_of text ≡ line ∷ lines_of rest
-  pub fits : length line ≤ 1200
+  pub fits : length line ≤ line_limit
 
 -- the next line has more octets than a line may have
 pub record IsTooLong (text : List ℕ) : Type 0 where
   pub line : List ℕ
   pub more : List (List ℕ)
   pub lines : lines_of text ≡ line ∷ more
-  pub long : 1200 < length line
+  pub long : line_limit < length line
 
 abbrev pub Finds : List ℕ → List ℕ → Option (List ℕ) → List ℕ → Found → Type 0
 Finds text held source line Line = NamesLine text held source line

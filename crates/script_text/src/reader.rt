@@ -1,8 +1,12 @@
 // A reader of lines over a source.
 ghost use Rattle.std.specs.Prelude.{◌≡◌, ◌≤◌, ◌<◌, ℕ, List, [], Option, IfOk, OnOk, length};
 ghost use Rattle.board_core.specs.Causes.{HasCause};
+ghost use Rattle.script_text.specs.Lines.{line_limit};
 ghost use Rattle.script_text.specs.Reading.{HasLeft, GivesOctet, Finds, without_return};
+ghost use Rattle.script_text.specs.Script.{GivesForm};
 
+use crate::form::Form;
+use crate::parse::read_form;
 use board_core::{Bytes, Source, SourceFailed};
 use std::marker::Model;
 
@@ -118,12 +122,27 @@ impl Reader {
             }
         }
     }
+
+    /// Reads the next line and answers its form: None where it has none, and where no line comes. Takes no memory.
+    ///
+    /// At None and at an error what is left of the text is left open.
+    pub fn form<S: Source>(&mut self, source: &mut S) -> Result<Option<Form>, SourceFailed>
+        ensures form { (text : List ℕ) → HasLeft self.old (S.left source.old) text → IfOk result (GivesForm text self.new (S.left source.new)) }
+        ensures cause { HasCause (S.faults source.old) (S.faults source.new) result }
+    {
+        let mut line = LineBuffer::new();
+        match self.line(source, &mut line)? {
+            Found::Line => Ok(read_form(line.as_slice())),
+            Found::TooLong => Ok(None),
+            Found::End => Ok(None),
+        }
+    }
 }
 
 // Whether a line that was read to its end is a line or too long for one.
 fn fits(line: &LineBuffer) -> Found
-    ensures line { result ≡ Found.Line → length line.now ≤ 1200 }
-    ensures long { result ≡ Found.TooLong → 1200 < length line.now }
+    ensures line { result ≡ Found.Line → length line.now ≤ line_limit }
+    ensures long { result ≡ Found.TooLong → line_limit < length line.now }
     ensures other { result ≡ Found.End → ⊥ }
 {
     if line.as_slice().len() <= LINE_LIMIT {
