@@ -105,7 +105,7 @@ pub fn read_form(line: &[u8]) -> Option<Form>
     None
 }
 
-/// An event's line is its word, a space and the digits of 16 octets, and no other line is one.
+/// A law: a line has a form exactly where it is so spelled, for each form.
 pub fn spelled()
-    ensures { (line octets : List ℕ) → form_of line ≡ Some (Form.Event octets) ↔ Spells (Form.Event octets) line }
+    ensures { (line : List ℕ) (form : Form) → form_of line ≡ Some form ↔ Spells form line }
 {}
