@@ -24,11 +24,12 @@ pub struct FileBoard<'a, R> {
 
 impl<'a, R: Files<File = File> + Net> FileBoard<'a, R> {
     ghost use Rattle.std.specs.Prelude.{◌≡◌, IfOk};
+    ghost use Rattle.real_devices.specs.Devices.{board_view};
 
     /// Opens the state file at `path` to read and write. Its faults count from 0.
     pub fn open(rt: &'a R, alloc: Global, path: &str) -> io::Result<FileBoard<'a, R>>
-        ensures disk_faults { IfOk result (λ board. board.disk_faults ≡ 0) }
-        ensures issue_faults { IfOk result (λ board. board.issue_faults ≡ 0) }
+        ensures disk_faults { IfOk result (λ board. (board_view board).disk_faults ≡ 0) }
+        ensures issue_faults { IfOk result (λ board. (board_view board).issue_faults ≡ 0) }
     {
         let file = OpenOptions::new().read(true).write(true).open(rt, path)?;
         FileBoard::over(rt, alloc, path, file)
@@ -37,8 +38,8 @@ impl<'a, R: Files<File = File> + Net> FileBoard<'a, R> {
     /// Opens the state file at `path` to read and write, and creates it empty where it is missing.
     /// Its faults count from 0.
     pub fn create(rt: &'a R, alloc: Global, path: &str) -> io::Result<FileBoard<'a, R>>
-        ensures disk_faults { IfOk result (λ board. board.disk_faults ≡ 0) }
-        ensures issue_faults { IfOk result (λ board. board.issue_faults ≡ 0) }
+        ensures disk_faults { IfOk result (λ board. (board_view board).disk_faults ≡ 0) }
+        ensures issue_faults { IfOk result (λ board. (board_view board).issue_faults ≡ 0) }
     {
         let file = OpenOptions::new()
             .read(true)
@@ -49,8 +50,8 @@ impl<'a, R: Files<File = File> + Net> FileBoard<'a, R> {
     }
 
     fn over(rt: &'a R, alloc: Global, path: &str, file: File) -> io::Result<FileBoard<'a, R>>
-        ensures disk_faults { IfOk result (λ board. board.disk_faults ≡ 0) }
-        ensures issue_faults { IfOk result (λ board. board.issue_faults ≡ 0) }
+        ensures disk_faults { IfOk result (λ board. (board_view board).disk_faults ≡ 0) }
+        ensures issue_faults { IfOk result (λ board. (board_view board).issue_faults ≡ 0) }
     {
         Ok(FileBoard {
             rt,
@@ -64,11 +65,11 @@ impl<'a, R: Files<File = File> + Net> FileBoard<'a, R> {
 }
 
 impl<'a, R: Files<File = File> + Net> Board for FileBoard<'a, R> {
-    ghost use Rattle.real_devices.specs.Silent.{silent_view, silent_sound};
+    ghost use Rattle.real_devices.specs.Devices.{board_view, board_sound};
 
-    ghost view = { λ board. silent_view board.disk_faults board.issue_faults };
+    ghost view = { board_view };
 
-    ghost sound = { λ board. silent_sound board.disk_faults board.issue_faults };
+    ghost sound = { board_sound };
 
     #[tactic(auto, using(crate::proofs::Silence::silent_read))]
     fn len(&mut self) -> Result<u64, DiskFailed> {
@@ -114,3 +115,6 @@ impl<'a, R: Files<File = File> + Net> Board for FileBoard<'a, R> {
         }
     }
 }
+
+#[cfg(test)]
+mod tests;

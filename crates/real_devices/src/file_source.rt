@@ -17,10 +17,11 @@ pub struct FileSource {
 
 impl FileSource {
     ghost use Rattle.std.specs.Prelude.{◌≡◌, IfOk};
+    ghost use Rattle.real_devices.specs.Devices.{source_faults};
 
     /// Opens the file at `path`, whose faults count from 0.
     pub fn open<R: Files<File = File>>(rt: &R, path: &str) -> io::Result<FileSource>
-        ensures { IfOk result (λ source. source.faults ≡ 0) }
+        ensures { IfOk result (λ source. source_faults source ≡ 0) }
     {
         Ok(FileSource {
             file: fs::open(rt, path)?,
@@ -30,11 +31,16 @@ impl FileSource {
 }
 
 impl Source for FileSource {
+    ghost use Rattle.real_devices.specs.Devices.{source_faults};
+
     ghost left = { λ source. None };
 
-    ghost faults = { λ source. source.faults };
+    ghost faults = { source_faults };
 
     fn read(&mut self, into: &mut [u8]) -> Result<usize, SourceFailed> {
         counted(self.file.read(into), &mut self.faults, SourceFailed)
     }
 }
+
+#[cfg(test)]
+mod tests;

@@ -13,20 +13,27 @@ pub struct StdSink<W> {
 }
 
 impl<W: Write + Drop> StdSink<W> {
+    ghost use Rattle.real_devices.specs.Devices.{sink_faults};
+
     /// A sink over the stream, whose faults count from 0.
     pub fn new(stream: W) -> StdSink<W>
-        ensures { result.faults ≡ 0 }
+        ensures { sink_faults result ≡ 0 }
     {
         StdSink { stream, faults: 0 }
     }
 }
 
 impl<W: Write + Drop> Sink for StdSink<W> {
+    ghost use Rattle.real_devices.specs.Devices.{sink_faults};
+
     ghost written = { λ sink. None };
 
-    ghost faults = { λ sink. sink.faults };
+    ghost faults = { sink_faults };
 
     fn write(&mut self, from: &[u8]) -> Result<(), SinkFailed> {
         counted(self.stream.write_all(from), &mut self.faults, SinkFailed)
     }
 }
+
+#[cfg(test)]
+mod tests;
