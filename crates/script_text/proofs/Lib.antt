@@ -1,0 +1,5 @@
+pub mod Read
+pub mod LinesLemmas
+pub mod FormLemmas
+pub mod Spelling
+pub mod ScriptLemmas

@@ -1,0 +1,23 @@
+-- The lines of a text.
+use Rattle.std.specs.Prelude.{ℕ, Bool, true, false, ◌&&◌, nat_eq, if◌then◌else◌, List, [], ◌∷◌}
+
+abbrev pub begins_with : ℕ → List ℕ → Bool
+begins_with b [] = false
+begins_with b (c ∷ text) = nat_eq c b
+
+-- an octet more at the front of the first line
+abbrev pub onto_first : ℕ → List (List ℕ) → List (List ℕ)
+onto_first b [] = (b ∷ []) ∷ []
+onto_first b (line ∷ lines) = (b ∷ line) ∷ lines
+
+-- The lines without their ends. A line ends with 0Ah, and a 0Dh right before it belongs to its end; the last may lack its end.
+abbrev pub lines_of : List ℕ → List (List ℕ)
+lines_of [] = []
+lines_of (b ∷ text) =
+    if nat_eq b 10 then [] ∷ lines_of text
+    else if nat_eq b 13 && begins_with 10 text then lines_of text
+    else onto_first b (lines_of text)
+
+-- the longest line in octets, without its end
+abbrev pub line_limit : ℕ
+line_limit = 1200

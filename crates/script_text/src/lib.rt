@@ -1,0 +1,10 @@
+//! The lines of a text, a reader of them over a `Source`, and the forms of a script's lines.
+#![tactic(auto)]
+
+mod form;
+mod parse;
+mod reader;
+
+pub use form::Form;
+pub use parse::{read_form, spelled};
+pub use reader::{Found, LineBuffer, Reader};
