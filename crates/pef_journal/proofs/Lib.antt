@@ -1,0 +1,4 @@
+pub mod Moments
+pub mod Entries
+pub mod Append
+pub mod Unique

@@ -1,0 +1,51 @@
+-- What a crash leaves while calls follow one another.
+use Rattle.std.proofs.Common.{◌≡◌, ◌⊎◌, inl, inr, ⊎_elim, ℕ, ◌+◌, ◌≤◌, List, [], ◌∷◌, ◌++◌, length, IsTrue, refl, sym, ◌∙◌, ap, subst, arith}
+use Rattle.board_core.specs.Board.{BoardView, Left, LeftNow, IsSound, IsFileRun, IsFileCall, Reads, Syncs, LeavesOnly, SyncsFirst, NeverSynced, SameSteps, steps_of, tolds_of, Only}
+
+-- before the first call
+pub started : (v : BoardView) (P : Left → Type 0) → IsSound v → IsTrue v.tells → ((left : Left) → LeftNow v left → P left) → LeavesOnly v v P
+started v P sound tells here = record { later = omega arith; each = λ left since. here left (sound.only_now tells left since); before = λ t left le since. inl since }
+
+-- one call of the file more
+pub goes_on : (old mid new : BoardView) (P : Left → Type 0) → LeavesOnly old mid P → IsFileCall mid new → IsTrue new.tells → ((left : Left) → LeftNow new left → P left) → LeavesOnly old new P
+goes_on old mid new P so_far call tells here = record {
+  later = omega (arith, so_far.later, call.run.later tells);
+  each = λ left since. ⊎_elim (so_far.each left) (here left) (call.nothing_else tells old.moment left so_far.later since);
+  before = λ t left le since. ⊎_elim (so_far.before t left le) (λ now. inr (here left now)) (call.nothing_else tells t left (omega (arith, le, so_far.later)) since);
+}
+
+
+-- two runs, one behind the other
+pub leaves_compose : (start now new : BoardView) (P Q : Left → Type 0) → LeavesOnly start now P → LeavesOnly now new Q → ((left : Left) → Q left → P left) → LeavesOnly start new P
+leaves_compose start now new P Q first second along = record {
+  later = omega (arith, first.later, second.later);
+  each = λ left since. ⊎_elim (first.each left) (along left) (second.before start.moment left first.later since);
+  before = λ t left le since. ⊎_elim (first.before t left le) (λ q. inr (along left q)) (second.before t left (omega (arith, le, first.later)) since);
+}
+
+-- the same said of a weaker fact
+pub leaves_map : (old new : BoardView) (P Q : Left → Type 0) → ((left : Left) → P left → Q left) → LeavesOnly old new P → LeavesOnly old new Q
+leaves_map old new P Q along run = record {
+  later = run.later;
+  each = λ left since. along left (run.each left since);
+  before = λ t left le since. ⊎_elim inl (λ p. inr (along left p)) (run.before t left le since);
+}
+
+pub syncs_map : (old new : BoardView) (P Q : Left → Type 0) → ((left : Left) → P left → Q left) → SyncsFirst old new P → SyncsFirst old new Q
+syncs_map old new P Q along s = record { synced = s.synced; after_start = s.after_start; by_now = s.by_now; until = s.until; since = λ left now. along left (s.since left now) }
+
+-- a call that only reads: a crash in it leaves what it could just before
+pub syncs_reads : (start now new : BoardView) (P : Left → Type 0) → IsSound now → IsSound new → Reads now new → IsTrue new.tells → SyncsFirst start now P → SyncsFirst start new P
+syncs_reads start now new P sound_now sound_new reads tells s = record {
+  synced = s.synced;
+  after_start = s.after_start;
+  by_now = omega (arith, s.by_now, reads.call.run.later tells);
+  until = λ left since. ⊎_elim
+    (λ old. ⊎_elim inl (λ later. inr (reads.call.run.keeps tells s.synced left s.by_now later)) (s.until left old))
+    (λ at_new. inr (sound_new.counts_now tells s.synced left (omega (arith, s.by_now, reads.call.run.later tells)) at_new))
+    (reads.call.nothing_else tells start.moment left (omega (arith, s.after_start, s.by_now)) since);
+  since = λ left since. ⊎_elim (s.since left)
+    (λ at_new. s.since left (sound_now.counts_now (reads.call.run.tells tells) s.synced left s.by_now
+      (record { image = (reads.images tells left.image).0 at_new.image; issued = at_new.issued ∙ ap steps_of (reads.call.run.sent tells); told = at_new.told ∙ ap tolds_of (reads.call.run.sent tells) })))
+    (reads.call.nothing_else tells s.synced left s.by_now since);
+}
