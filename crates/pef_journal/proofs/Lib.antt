@@ -2,3 +2,4 @@ pub mod Moments
 pub mod Entries
 pub mod Append
 pub mod Unique
+pub mod Gates

@@ -4,6 +4,7 @@
 mod appending;
 mod fault;
 mod formatting;
+mod gate;
 mod journal;
 mod layout;
 mod opening;

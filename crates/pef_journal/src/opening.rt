@@ -7,6 +7,7 @@ ghost use Rattle.pef_journal.specs.Journal.{IsAt, HasRead, Fits, LeavesAsRead, H
 
 use crate::JournalFault;
 use crate::journal::Journal;
+use crate::layout::{SETTINGS, head_of};
 use board_core::Board;
 
 impl Journal {
@@ -38,7 +39,21 @@ impl Journal {
         ensures begins { IfOk result (λ journal. HasEnded journal → ⊥) }
     {
         board.sync()?;
-        let _ = board.len()?;
-        Err(JournalFault::NotFormatted)
+        let file_length = board.len()?;
+        let first_gate = SETTINGS + settings.len() as u64;
+        if file_length <= first_gate {
+            return Err(JournalFault::NotFormatted);
+        }
+        let mut head = [0; 4];
+        board.read_at(0, &mut head)?;
+        if head != head_of(kind, settings.len()) {
+            return Err(JournalFault::NotFormatted);
+        }
+        board.read_at(SETTINGS, settings)?;
+        Ok(Journal {
+            place: first_gate,
+            ended: false,
+            file_length,
+        })
     }
 }

@@ -6,6 +6,7 @@ ghost use Rattle.pef_journal.specs.Image.{IsCorruptAt};
 ghost use Rattle.pef_journal.specs.Journal.{IsAt, HasRead, HasEnded, GivesEntry, ReadsOn, Finds, Fits};
 
 use crate::JournalFault;
+use crate::gate::{Gate, read_gate, read_octets};
 use crate::journal::Journal;
 use board_core::{Board, Payload};
 
@@ -40,6 +41,17 @@ impl Journal {
         ensures fits { Fits (B.view board.new) self.new }
         ensures place { OnOk result (HasRoomFor (B.view board.new) (self.new.place + 1)) }
     {
-        Err(JournalFault::DiskFault)
+        let length = match read_gate(board, self.place, self.file_length)? {
+            Gate::Open(length) => length,
+            Gate::Closed => {
+                self.ended = true;
+                return Ok(false);
+            }
+            Gate::Corrupt => return Err(JournalFault::Corrupt { at: self.place }),
+        };
+        read_octets(board, self.place + 3, length, out)?;
+        self.place += 3 + length as u64;
+        self.ended = false;
+        Ok(true)
     }
 }
