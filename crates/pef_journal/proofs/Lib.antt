@@ -1,5 +1,6 @@
 pub mod Moments
 pub mod Entries
-pub mod Append
 pub mod Unique
+pub mod Append
 pub mod Gates
+pub mod ReadOn

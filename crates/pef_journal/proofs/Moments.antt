@@ -15,6 +15,18 @@ goes_on old mid new P so_far call tells here = record {
 }
 
 
+-- two runs of calls of the file
+pub run_compose : (u v w : BoardView) → IsFileRun u v → IsFileRun v w → IsFileRun u w
+run_compose u v w first second = record {
+  tells = λ tells. first.tells (second.tells tells);
+  goes_on = λ tells. second.goes_on (first.goes_on tells);
+  sent = λ tells. second.sent tells ∙ first.sent (second.tells tells);
+  disk_faults = omega (arith, first.disk_faults, second.disk_faults);
+  issue_faults = omega (arith, first.issue_faults, second.issue_faults);
+  later = λ tells. omega (arith, second.later tells, first.later (second.tells tells));
+  keeps = λ tells t left le since. second.keeps tells t left (omega (arith, le, first.later (second.tells tells))) (first.keeps (second.tells tells) t left le since);
+}
+
 -- two runs, one behind the other
 pub leaves_compose : (start now new : BoardView) (P Q : Left → Type 0) → LeavesOnly start now P → LeavesOnly now new Q → ((left : Left) → Q left → P left) → LeavesOnly start new P
 leaves_compose start now new P Q first second along = record {
@@ -49,3 +61,27 @@ syncs_reads start now new P sound_now sound_new reads tells s = record {
       (record { image = (reads.images tells left.image).0 at_new.image; issued = at_new.issued ∙ ap steps_of (reads.call.run.sent tells); told = at_new.told ∙ ap tolds_of (reads.call.run.sent tells) })))
     (reads.call.nothing_else tells s.synced left s.by_now since);
 }
+
+-- two calls that only read, one behind the other
+pub reads_compose : (u v w : BoardView) → Reads u v → Reads v w → Reads u w
+reads_compose u v w first second = record {
+  call = record {
+    run = run_compose u v w first.call.run second.call.run;
+    nothing_else = λ tells t left le since. ⊎_elim
+      (λ at_v. ⊎_elim inl (λ now. inr (read_later left tells now)) (first.call.nothing_else (second.call.run.tells tells) t left le at_v))
+      inr
+      (second.call.nothing_else tells t left (omega (arith, le, first.call.run.later (second.call.run.tells tells))) since);
+  };
+  octets = λ tells. second.octets tells ∙ first.octets (second.call.run.tells tells);
+  images = λ tells c. (
+    λ now. (first.images (second.call.run.tells tells) c).0 ((second.images tells c).0 now),
+    λ was. (second.images tells c).1 ((first.images (second.call.run.tells tells) c).1 was),
+  );
+}
+  where
+    read_later : (left : Left) → IsTrue w.tells → LeftNow v left → LeftNow w left
+    read_later left tells now = record {
+      image = (second.images tells left.image).1 now.image;
+      issued = now.issued ∙ ap steps_of (sym (second.call.run.sent tells));
+      told = now.told ∙ ap tolds_of (sym (second.call.run.sent tells));
+    }
