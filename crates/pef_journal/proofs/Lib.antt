@@ -4,3 +4,4 @@ pub mod Unique
 pub mod Append
 pub mod Gates
 pub mod ReadOn
+pub mod Heads

@@ -1,5 +1,6 @@
 -- What a crash leaves while calls follow one another.
-use Rattle.std.proofs.Common.{◌≡◌, ◌⊎◌, inl, inr, ⊎_elim, ℕ, ◌+◌, ◌≤◌, List, [], ◌∷◌, ◌++◌, length, IsTrue, refl, sym, ◌∙◌, ap, subst, arith}
+use Rattle.std.proofs.Common.{◌≡◌, ◌⊎◌, ◌↔◌, inl, inr, ⊎_elim, ℕ, ◌+◌, ◌≤◌, List, [], ◌∷◌, ◌++◌, length, IsTrue, refl, sym, ◌∙◌, ap, subst, arith}
+use Rattle.pef_journal.specs.Journal.{LeavesAsRead}
 use Rattle.board_core.specs.Board.{BoardView, Left, LeftNow, IsSound, IsFileRun, IsFileCall, Reads, Syncs, LeavesOnly, SyncsFirst, NeverSynced, SameSteps, steps_of, tolds_of, Only}
 
 -- before the first call
@@ -85,3 +86,26 @@ reads_compose u v w first second = record {
       issued = now.issued ∙ ap steps_of (sym (second.call.run.sent tells));
       told = now.told ∙ ap tolds_of (sym (second.call.run.sent tells));
     }
+
+-- the sync that a work begins with has failed
+pub never_synced : (v w : BoardView) → IsSound v → IsFileCall v w → IsTrue w.tells → ((c : List ℕ) → w.images c ↔ v.images c) → NeverSynced v w
+never_synced v w sound call tells same = record {
+  until = λ left since. ⊎_elim (sound.only_now (call.run.tells tells) left)
+    (λ now. record { image = (same left.image).0 now.image; issued = now.issued ∙ ap steps_of (call.run.sent tells); told = now.told ∙ ap tolds_of (call.run.sent tells) })
+    (call.nothing_else tells v.moment left (omega arith) since);
+}
+
+-- or it is done
+pub first_sync : (v w : BoardView) → IsSound v → IsSound w → IsFileCall v w → IsTrue w.tells → w.octets ≡ v.octets → Only w.octets w.images → SyncsFirst v w (LeavesAsRead v)
+first_sync v w sound_v sound_w call tells octets lasting = record {
+  synced = w.moment;
+  after_start = call.run.later tells;
+  by_now = omega arith;
+  until = λ left since. ⊎_elim
+    (λ was. inl (sound_v.only_now (call.run.tells tells) left was))
+    (λ now. inr (sound_w.counts_now tells w.moment left (omega arith) now))
+    (call.nothing_else tells v.moment left (omega arith) since);
+  since = λ left since.
+    let now = sound_w.only_now tells left since in
+    (record { issued = now.issued ∙ ap steps_of (call.run.sent tells); told = now.told ∙ ap tolds_of (call.run.sent tells) }, lasting left.image now.image ∙ octets);
+}

@@ -1,10 +1,12 @@
 //! Making a file that stands for no entries, and telling whether there is one.
-ghost use Rattle.std.specs.Prelude.{◌≡◌, ◌⊎◌, ◌+◌, ℕ, [], ◌∷◌, ◌++◌, length, drop, IsTrue, IfOk, OnOk};
+ghost use Rattle.std.specs.Prelude.{◌≡◌, ◌⊎◌, ◌+◌, ℕ, List, [], ◌∷◌, ◌++◌, length, take, drop, IsTrue, IfOk, OnOk};
 ghost use Rattle.board_core.specs.Causes.{HasCause};
 ghost use Rattle.board_core.specs.Board.{Only, LeavesOnly, SameSteps, IsFileRun, SyncsFirst, NeverSynced};
 ghost use Rattle.pef_journal.specs.Image.{header, IsFormatted, Stands, HasSettingsLength, KindIs, IsEmptyOrUnformatted};
 ghost use Rattle.pef_journal.specs.Journal.{LeavesAsRead};
 
+use crate::layout::{SETTINGS, head_of, settings_length};
+use crate::syncing::synced_length;
 use board_core::{Board, DiskFailed};
 
 /// Makes a file that isn't formatted stand for no entries, with these settings, which have the kind's length. What lies
@@ -40,6 +42,24 @@ pub fn kind_of<B: Board>(board: &mut B) -> Result<Option<u8>, DiskFailed>
     ensures run { IsFileRun (B.view board.old) (B.view board.new) }
     ensures cause { HasCause (B.view board.old).disk_faults (B.view board.new).disk_faults result }
 {
-    board.sync()?;
-    Ok(None)
+    let file_length = synced_length(board)?;
+    if file_length <= SETTINGS {
+        return Ok(None);
+    }
+    let mut head = [0; 4];
+    board.read_at(0, &mut head)?;
+    Ok(kind_in(&head, file_length))
+}
+
+// The kind of a file of this length, of which these are the first four octets.
+fn kind_in(head: &[u8; 4], file_length: u64) -> Option<u8>
+    ensures { (file : List ℕ) → length file ≡ file_length → take 4 file ≡ head.now → KindIs file result }
+{
+    let kind = head[1];
+    let length = settings_length(kind)?;
+    if *head == head_of(kind, length) && file_length > SETTINGS + length as u64 {
+        Some(kind)
+    } else {
+        None
+    }
 }

@@ -1,5 +1,5 @@
 //! The layout of a state file.
-ghost use Rattle.std.specs.Prelude.{◌≡◌, ◌<◌, ◌/◌, ◌%◌, [], ◌∷◌, length};
+ghost use Rattle.std.specs.Prelude.{◌≡◌, ◌<◌, ◌≤◌, IfSome, ◌/◌, ◌%◌, [], ◌∷◌, length};
 ghost use Rattle.pef_journal.specs.Image.{settings_length as length_of_settings, frame};
 
 use board_core::{Bytes, Payload};
@@ -15,7 +15,8 @@ pub const SETTINGS: u64 = 4;
 
 /// The settings' length of a kind of file, in octets.
 pub fn settings_length(kind: u8) -> Option<usize>
-    ensures { result ≡ length_of_settings kind }
+    ensures value { result ≡ length_of_settings kind }
+    ensures bound { IfSome result (λ n. n ≤ 55) }
 {
     match kind {
         1 => Some(55),

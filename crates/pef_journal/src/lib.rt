@@ -9,6 +9,7 @@ mod journal;
 mod layout;
 mod opening;
 mod reading;
+mod syncing;
 
 pub use fault::JournalFault;
 pub use formatting::{format, kind_of};

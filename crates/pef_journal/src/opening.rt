@@ -8,6 +8,7 @@ ghost use Rattle.pef_journal.specs.Journal.{IsAt, HasRead, Fits, LeavesAsRead, H
 use crate::JournalFault;
 use crate::journal::Journal;
 use crate::layout::{SETTINGS, head_of};
+use crate::syncing::synced_length;
 use board_core::Board;
 
 impl Journal {
@@ -38,8 +39,7 @@ impl Journal {
         ensures place { IfOk result (λ journal. HasRoomFor (B.view board.new) (journal.place + 1)) }
         ensures begins { IfOk result (λ journal. HasEnded journal → ⊥) }
     {
-        board.sync()?;
-        let file_length = board.len()?;
+        let file_length = synced_length(board)?;
         let first_gate = SETTINGS + settings.len() as u64;
         if file_length <= first_gate {
             return Err(JournalFault::NotFormatted);
