@@ -1,8 +1,8 @@
 -- The calls of a board in memory.
-use Rattle.std.proofs.Common.{◌≡◌, ◌⊎◌, inl, inr, ⊎_elim, ℕ, ◌+◌, ◌≤◌, List, [], ◌∷◌, ◌++◌, length, take, drop, IsTrue, refl, sym, ◌∙◌, ap, subst, arith, length-append, append_assoc, length-drop}
+use Rattle.std.proofs.Common.{◌≡◌, inl, inr, ⊎_elim, ℕ, ◌+◌, ◌≤◌, List, [], ◌∷◌, ◌++◌, length, take, drop, IsTrue, refl, sym, ◌∙◌, ap, subst, arith, length-append, append_assoc, length-drop}
 use Rattle.std.proofs.lemmas.List.{take_at, drop_at, length-take-le}
 use Rattle.std.specs.Prelude.{⊤}
-use Rattle.board_core.specs.Board.{BoardView, Left, LeftNow, IsFileCall, IsFileRun, Torn, Issues}
+use Rattle.board_core.specs.Board.{Left, IsFileCall, Torn, Issues}
 use Rattle.board_core.specs.declared.call.Call.{Call}
 use Rattle.board_core.specs.declared.call.Call.TheVariants.{Wrote, Synced, Issued}
 use Rattle.board_core.specs.declared.step.Sent.{Sent}

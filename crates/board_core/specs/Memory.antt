@@ -1,8 +1,8 @@
 -- A board in memory, as a board.
-use Rattle.std.specs.Prelude.{◌≡◌, ◌⊎◌, ℕ, ◌+◌, ◌≤◌, List, [], ◌∷◌, ◌++◌, length, take, drop, IsTrue, refl}
-use Rattle.std.proofs.Common.{inl, inr, ⊎_elim, sym, ◌∙◌, ap, subst, arith}
+use Rattle.std.specs.Prelude.{◌≡◌, ℕ, List, [], ◌∷◌, length, take, drop, refl}
+use Rattle.std.proofs.Common.{inl, ⊎_elim, sym, subst, arith}
 use Rattle.std.proofs.lemmas.List.{take_all, drop_all}
-use Rattle.board_core.specs.Board.{BoardView, Left, LeftNow, IsSound}
+use Rattle.board_core.specs.Board.{BoardView, IsSound}
 use Rattle.board_core.specs.declared.call.Call.{Call}
 use Rattle.board_core.specs.declared.call.Call.TheVariants.{Wrote, Synced, Issued}
 use Rattle.board_core.specs.Shadow.{Shadow, shadow_of, fresh_shadow, after, after_all, LeftSince, LeftAt, LeftWithin}

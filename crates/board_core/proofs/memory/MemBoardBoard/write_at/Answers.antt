@@ -1,9 +1,9 @@
-use Rattle.std.proofs.Common.{◌≡◌, ℕ, ◌≤◌, length, List, IsTrue, inl, inr, ⊎_elim, refl, sym, ◌∙◌, ap, subst, arith}
+use Rattle.std.proofs.Common.{◌≡◌, ◌≤◌, length, IsTrue, ⊎_elim, refl, sym, ◌∙◌, ap, subst, arith}
 use Rattle.board_core.specs.Board.{Torn}
 use Rattle.board_core.specs.declared.call.Call.TheVariants.{Wrote}
 use Rattle.board_core.specs.declared.memory.MemBoard.{MemBoard}
-use Rattle.board_core.specs.Shadow.{Shadow, shadow_of, after, put_at}
-use Rattle.board_core.specs.Memory.{memory_view, memory_sound}
+use Rattle.board_core.specs.Shadow.{Shadow, shadow_of, put_at}
+use Rattle.board_core.specs.Memory.{memory_sound}
 use Rattle.board_core.proofs.Pushed.{shadow_of-push}
 use Rattle.board_core.proofs.MemoryCalls.{file_call, whole_is_torn}
 use Rattle.board_core.proofs.memory.MemBoardBoard.write_at.Goals as goal
