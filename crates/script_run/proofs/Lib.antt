@@ -1,0 +1,4 @@
+pub mod RunLemmas
+pub mod RoomLemmas
+pub mod TakesLemmas
+pub mod TopLemmas

@@ -1,0 +1,38 @@
+-- Which items a script still has to give after a history.
+use Rattle.std.specs.Prelude.{◌≡◌, ⊤, ℕ, ◌+◌, ◌&&◌, Bool, true, false, IsTrue, IsFalse, nat_eq, if◌then◌else◌, List, [], ◌∷◌, ◌++◌, length, map, drop, Option, Some, None}
+use Rattle.pef_engine.specs.declared.entry.Entry.{Entry}
+use Rattle.pef_engine.specs.declared.script.Script.{Script}
+use Rattle.script_text.specs.Script.{Given, Said, said_of, bad_line}
+use Rattle.script_run.specs.Scripts.{ScriptRules}
+
+-- they have one id and one count
+abbrev pub is_same : Script → Said → Bool
+is_same script said = nat_eq script.id said.id && nat_eq script.count said.count
+
+-- another script was opened and is unfinished
+abbrev pub IsOther : Option Script → Option Said → Type 0
+IsOther None said = ⊥
+IsOther (Some script) None = ⊥
+IsOther (Some script) (Some said) = IsFalse script.closed × IsFalse (is_same script said)
+
+-- the closing item, where no line is bad
+abbrev pub closing_of : {I : Type 0} → ScriptRules I → Option ℕ → List I
+closing_of scripts None = scripts.closing ∷ []
+closing_of scripts (Some number) = []
+
+-- the events behind so many that were taken, and the closing item
+abbrev pub rest_of : {I : Type 0} → ScriptRules I → ℕ → Given → List I
+rest_of scripts taken given = map scripts.event (drop taken given.events) ++ closing_of scripts given.bad
+
+-- what a text gives behind the script that was opened last
+abbrev pub items_after : {I : Type 0} → ScriptRules I → Option Script → Option Said → List I
+items_after scripts script None = []
+items_after scripts None (Some said) = scripts.opening said.id said.count ∷ rest_of scripts 0 said.given
+items_after scripts (Some script) (Some said) =
+    if script.closed then (if is_same script said then [] else scripts.opening said.id said.count ∷ rest_of scripts 0 said.given)
+    else (if is_same script said then rest_of scripts script.taken said.given else [])
+
+-- The items that a text gives after a history. A script that is closed gives none again; one that is unfinished goes on
+-- behind the items that were taken; where another one is unfinished, or line 1 is bad, there are none.
+abbrev pub items_of_text : {I : Type 0} → ScriptRules I → List ℕ → List (Entry I) → List I
+items_of_text scripts text H = items_after scripts (scripts.script_of H) (said_of text)

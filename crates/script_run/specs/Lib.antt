@@ -1,0 +1,5 @@
+pub mod Scripts
+pub mod Items
+pub mod Report
+pub mod Run
+pub mod Top

@@ -1,0 +1,118 @@
+//! The lines of the report: one for each entry that was stored.
+ghost use Rattle.std.specs.Prelude.{◌≡◌, ◌≤◌, ℕ, List, [], ◌∷◌, ◌++◌, length, IsErr, IsErrOf};
+ghost use Rattle.board_core.specs.Causes.{Rose};
+ghost use Rattle.board_core.specs.Source.{Appends};
+ghost use Rattle.pef_engine.specs.declared.entry.Entry.{Entry};
+ghost use Rattle.pef_engine.specs.Rules.{Lawful, IsItem};
+ghost use Rattle.script_run.specs.Report.{act_word, told_word, address_text, outcome_line, says};
+
+use crate::scripted::{ReportLine, Scripted};
+use crate::stop::Stop;
+use board_core::{Act, Address, Octets, Sink, Step, Told};
+use hex::encode_to_slice;
+use itoa::Buffer;
+use pef_engine::Entry;
+
+// Writes a line.
+pub(crate) fn put<K: Sink>(out: &mut K, line: &[u8]) -> Result<(), Stop>
+    ensures said { Appends line.now (K.written out.old) (K.written out.new) result }
+    ensures output { IsErr result → IsErrOf result Stop.Output × Rose (K.faults out.old) (K.faults out.new) }
+    ensures faults { K.faults out.old ≤ K.faults out.new }
+{
+    match out.write(line) {
+        Ok(()) => Ok(()),
+        Err(_) => Err(Stop::Output),
+    }
+}
+
+// Writes the line of the item that was taken last.
+pub(crate) fn say_taken<M: Scripted, K: Sink>(machine: &M, entry: &Entry<M::Item>, out: &mut K) -> Result<(), Stop>
+    requires { IsItem entry.now }
+    ensures said { (Z : List ℕ) (H : List (Entry M.Item)) → Lawful M.rules Z (H ++ entry.now ∷ []) → (M.view machine.now).shows Z (H ++ entry.now ∷ []) →
+        Appends (says M.rules M.scripts Z H entry.now) (K.written out.old) (K.written out.new) result }
+    ensures output { IsErr result → IsErrOf result Stop.Output × Rose (K.faults out.old) (K.faults out.new) }
+    ensures faults { K.faults out.old ≤ K.faults out.new }
+{
+    match entry {
+        Entry::Item(item) => {
+            let line = machine.say(item);
+            put(out, line.as_slice())
+        }
+        Entry::Outcome(_) => Ok(()),
+    }
+}
+
+// Writes the line of what a step was told.
+pub(crate) fn say_outcome<K: Sink>(out: &mut K, step: &Option<Step>, told: Told) -> Result<(), Stop>
+    ensures said { Appends (outcome_line step.now told) (K.written out.old) (K.written out.new) result }
+    ensures output { IsErr result → IsErrOf result Stop.Output × Rose (K.faults out.old) (K.faults out.new) }
+    ensures faults { K.faults out.old ≤ K.faults out.new }
+{
+    let line = outcome_text(step, told);
+    put(out, line.as_slice())
+}
+
+fn outcome_text(step: &Option<Step>, told: Told) -> ReportLine
+    ensures { result ≡ outcome_line step.now told }
+{
+    match step {
+        Some(Step::Act { kind, id }) => act_text(*kind, *id, told),
+        Some(Step::Datagram { to, octets }) => send_text(to, octets, told),
+        None => ReportLine::new(),
+    }
+}
+
+fn act_name(kind: Act) -> &'static [u8]
+    ensures { result.now ≡ act_word kind }
+{
+    match kind {
+        Act::PowerDown => b"power-down",
+        Act::PowerCycle => b"power-cycle",
+        Act::Reset => b"reset",
+        Act::DiagInt => b"diagnostic",
+        Act::Oem => b"oem",
+    }
+}
+
+fn told_name(told: Told) -> &'static [u8]
+    ensures { result.now ≡ told_word told }
+{
+    match told {
+        Told::Done => b"done",
+        Told::Failed => b"failed",
+    }
+}
+
+fn act_text(kind: Act, id: u16, told: Told) -> ReportLine
+    ensures { result ≡ outcome_line (Option.Some (Step.Act kind id)) told }
+{
+    let mut digits = [0u8; 4];
+    let _ = encode_to_slice(id.to_be_bytes(), &mut digits);
+    let mut line = ReportLine::new();
+    let _ = line.extend(b"act ".as_slice());
+    let _ = line.extend(act_name(kind));
+    let _ = line.extend(b" ".as_slice());
+    let _ = line.extend(&digits);
+    let _ = line.extend(b" ".as_slice());
+    let _ = line.extend(told_name(told));
+    let _ = line.extend(b"\n".as_slice());
+    line
+}
+
+fn send_text(to: &Address, octets: &Octets, told: Told) -> ReportLine
+    ensures { result ≡ outcome_line (Option.Some (Step.Datagram to.now octets.now)) told }
+{
+    let mut digits = [0u8; 1024];
+    let octets = octets.as_slice();
+    let digits = &mut digits[..2 * octets.len()];
+    let _ = encode_to_slice(octets, digits);
+    let mut line = ReportLine::new();
+    let _ = line.extend(b"send ".as_slice());
+    address(&mut line, to);
+    let _ = line.extend(b" ".as_slice());
+    let _ = line.extend(digits);
+    let _ = line.extend(b" ".as_slice());
+    let _ = line.extend(told_name(told));
+    let _ = line.extend(b"\n".as_slice());
+    line
+}

@@ -1,0 +1,130 @@
+//! Taking what the lines of a script give.
+ghost use Rattle.std.specs.Prelude.{◌≡◌, ◌⊎◌, ◌↔◌, ◌≤◌, ℕ, List, [], ◌∷◌, Option, None, IsTrue, IfErr, OnOk, IfOk, IsErr, IsErrOf};
+ghost use Rattle.board_core.specs.Causes.{Rose};
+ghost use Rattle.pef_engine.specs.declared.entry.Entry.{Entry};
+ghost use Rattle.pef_engine.specs.Engine.{Holds, IsLive, HasPlace};
+ghost use Rattle.script_text.specs.Lines.{lines_of};
+ghost use Rattle.script_text.specs.Reading.{HasLeft};
+ghost use Rattle.script_text.specs.Script.{given, GivesForm};
+ghost use Rattle.script_run.specs.Report.{says};
+ghost use Rattle.script_run.specs.Run.{RunsLines, IsReadyFor, Answers};
+
+use crate::scripted::Scripted;
+use crate::settling::take_one;
+use crate::stop::Stop;
+use board_core::{Board, Sink, Source};
+use pef_engine::Engine;
+use script_text::{Form, Reader};
+
+/// Takes what the lines behind the head give, behind so many items that were taken before: the events, and then the closing
+/// item where no line is bad. Answers how many items were taken.
+pub(crate) fn take_lines<M: Scripted, B: Board, S: Source, K: Sink>(engine: &mut Engine<M>, board: &mut B, source: &mut S, out: &mut K, reader: &mut Reader, count: u32, taken: u32) -> Result<u32, Stop>
+    requires live { IsLive engine.old }
+    requires place { HasPlace (B.view board.old) engine.old }
+    requires count { count ≤ 1000000 }
+    requires taken { taken ≤ count }
+    requires ready { IsReadyFor M.rules M.scripts (M.view engine.old.machine) count taken }
+    ensures runs { IsTrue (B.view board.new).tells → (Z : List ℕ) (H : List (Entry M.Item)) (text : List ℕ) →
+        Holds M.rules M.view Z H (B.view board.old) engine.old → HasLeft reader.old (S.left source.old) text →
+        RunsLines M.rules M.view (says M.rules M.scripts) M.scripts Z H text count taken (B.view board.old) (B.view board.new) engine.new (K.written out.old) (K.written out.new) result }
+    ensures tells { IsTrue (B.view board.new).tells → IsTrue (B.view board.old).tells }
+    ensures faults { ((B.view board.old).disk_faults ≤ (B.view board.new).disk_faults) × (K.faults out.old ≤ K.faults out.new) × (S.faults source.old ≤ S.faults source.new) }
+    ensures disk { IsErrOf result Stop.Disk → Rose (B.view board.old).disk_faults (B.view board.new).disk_faults }
+    ensures output { IsErrOf result Stop.Output → Rose (K.faults out.old) (K.faults out.new) }
+    ensures input { IsErrOf result Stop.Input → Rose (S.faults source.old) (S.faults source.new) }
+    ensures memory { IsErrOf result Stop.Memory → IsTrue M.rules.takes_memory }
+    ensures unfinished { (id count : ℕ) → IsErrOf result (Stop.Unfinished id count) → ⊥ }
+{
+    let mut skip = taken;
+    let mut left = count;
+    let mut number = 2u32;
+    let mut items = 0u32;
+    'lines: loop {
+        let form = match next_form(reader, source) {
+            Ok(form) => form,
+            Err(stop) => return Err(stop),
+        };
+        let Some(form) = form else {
+            return Err(Stop::Line(number));
+        };
+        match form {
+            Form::Event { octets } => {
+                if left == 0 {
+                    return Err(Stop::Line(number));
+                }
+                left -= 1;
+                if skip > 0 {
+                    skip -= 1;
+                    number += 1;
+                    continue 'lines;
+                }
+                match take_one(engine, board, out, M::event(octets)) {
+                    Ok(()) => {}
+                    Err(stop) => return Err(stop),
+                }
+                number += 1;
+                items += 1;
+            }
+            Form::End => {
+                if left != 0 {
+                    return Err(Stop::Line(number));
+                }
+                match take_one(engine, board, out, M::closing()) {
+                    Ok(()) => {}
+                    Err(stop) => return Err(stop),
+                }
+                return Ok(items + 1);
+            }
+            Form::Head { .. } => return Err(Stop::Line(number)),
+        }
+    }
+}
+
+/// Reads and checks the lines of a script that was closed before.
+pub(crate) fn pass_over<S: Source>(source: &mut S, reader: &mut Reader, count: u32) -> Result<(), Stop>
+    requires count { count ≤ 1000000 }
+    ensures answers { (text : List ℕ) → HasLeft reader.old (S.left source.old) text → Answers (given (lines_of text) count 2) result }
+    ensures input { IsErrOf result Stop.Input → Rose (S.faults source.old) (S.faults source.new) }
+    ensures faults { S.faults source.old ≤ S.faults source.new }
+    ensures other { (IsErrOf result Stop.Disk → ⊥) × (IsErrOf result Stop.Output → ⊥) × (IsErrOf result Stop.Full → ⊥) × (IsErrOf result Stop.Memory → ⊥)
+        × ((id count : ℕ) → IsErrOf result (Stop.Unfinished id count) → ⊥) }
+{
+    let mut left = count;
+    let mut number = 2u32;
+    'lines: loop {
+        let form = match next_form(reader, source) {
+            Ok(form) => form,
+            Err(stop) => return Err(stop),
+        };
+        let Some(form) = form else {
+            return Err(Stop::Line(number));
+        };
+        match form {
+            Form::Event { .. } => {
+                if left == 0 {
+                    return Err(Stop::Line(number));
+                }
+                left -= 1;
+                number += 1;
+            }
+            Form::End => {
+                if left != 0 {
+                    return Err(Stop::Line(number));
+                }
+                return Ok(());
+            }
+            Form::Head { .. } => return Err(Stop::Line(number)),
+        }
+    }
+}
+
+// The form of the next line, and None where it has none or no line comes.
+pub(crate) fn next_form<S: Source>(reader: &mut Reader, source: &mut S) -> Result<Option<Form>, Stop>
+    ensures form { (text : List ℕ) → HasLeft reader.old (S.left source.old) text → IfOk result (GivesForm text reader.new (S.left source.new)) }
+    ensures input { (IsErr result → IsErrOf result Stop.Input) × ((IsErr result → Rose (S.faults source.old) (S.faults source.new)) × (S.faults source.old ≤ S.faults source.new)) }
+{
+    match reader.form(source) {
+        Ok(form) => Ok(form),
+        Err(_) => Err(Stop::Input),
+    }
+}
