@@ -48,6 +48,7 @@ impl<M: Machine> Engine<M> {
         ensures other { IsErr result → IsErrOf result EngineFault.Full ⊎ (IsErrOf result EngineFault.DiskFault ⊎ IsTrue M.rules.takes_memory) }
         ensures goes_on { OnOk result (GoesOn M.rules (M.view self.old.machine) (M.view self.new.machine) entry.now) }
         ensures refused { OnErr result (KeepsAllButReady (M.view self.old.machine) (M.view self.new.machine)) }
+        ensures unchanged { IsErr result → (IsErrOf result EngineFault.DiskFault → ⊥) → (board.new ≡ board.old) × ((self.new.journal ≡ self.old.journal) × (self.new.live ≡ self.old.live)) }
         ensures live { IsLive self.new ↔ (IsErrOf result EngineFault.DiskFault → ⊥) }
         ensures disk { IsErrOf result EngineFault.DiskFault → Rose (B.view board.old).disk_faults (B.view board.new).disk_faults }
         ensures place { IsLive self.new → HasPlace (B.view board.new) self.new }

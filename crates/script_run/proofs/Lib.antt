@@ -1,4 +1,5 @@
 pub mod RunLemmas
+pub mod Moves
 pub mod RoomLemmas
+pub mod ScriptsLemmas
 pub mod TakesLemmas
-pub mod TopLemmas

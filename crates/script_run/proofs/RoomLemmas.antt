@@ -1,10 +1,10 @@
 -- Where the next entry has no room.
-use Rattle.std.proofs.Common.{◌≡◌, ◌⊎◌, inl, inr, ⊎_elim, ℕ, ◌+◌, ◌<◌, ◌≤◌, ◌^◌, List, [], ◌∷◌, ◌++◌, length, map, Option, Some, None, refl, sym, ◌∙◌, ap, subst, arith, append_assoc, length-append}
+use Rattle.std.proofs.Common.{◌≡◌, ◌⊎◌, inl, inr, ⊎_elim, ℕ, ◌+◌, ◌<◌, ◌≤◌, ◌^◌, List, [], ◌∷◌, ◌++◌, length, map, Option, Some, None, IsTrue, refl, sym, ◌∙◌, ap, subst, arith, append_assoc, length-append}
 use Rattle.std.proofs.lemmas.List.{append-nil, map-append}
 use Rattle.board_core.specs.declared.step.Told.{Told}
 use Rattle.board_core.specs.declared.step.Told.TheVariants.{Done}
 use Rattle.board_core.specs.declared.step.Step.{Step}
-use Rattle.board_core.specs.Board.{BoardView}
+use Rattle.board_core.specs.Board.{BoardView, IsSound}
 use Rattle.pef_journal.specs.Image.{header, blocks}
 use Rattle.pef_journal.proofs.Entries.{blocks-append}
 use Rattle.pef_engine.specs.declared.entry.Entry.{Entry}
@@ -14,7 +14,7 @@ use Rattle.pef_engine.specs.Rules.{Rules}
 use Rattle.pef_engine.specs.MachineView.{MachineView, IsOver}
 use Rattle.pef_engine.specs.Engine.{Holds, HasRoomForEntry, HasRoomForOutcome}
 use Rattle.script_run.specs.Run.{Runs, StopsFull, HasNoRoomBehind, IsTooMuch, ComesNext}
-use Rattle.script_run.proofs.RunLemmas.{runs_compose, compose_entries}
+use Rattle.script_run.proofs.RunLemmas.{runs_start, start_entries, runs_compose, compose_entries}
 
 module _ {I M : Type 0} (rules : Rules I) (view : M → MachineView I) (Z : List ℕ) (H : List (Entry I)) (now : BoardView) (engine : Engine M I) (holds : Holds rules view Z H now engine) where
   -- the length of the file with one entry more
@@ -25,7 +25,7 @@ module _ {I M : Type 0} (rules : Rules I) (view : M → MachineView I) (Z : List
       let split : header rules.kind Z ++ blocks (map rules.encode (H ++ e ∷ [])) ≡ front ++ one =
         ap (λ l. header rules.kind Z ++ blocks l) (map-append rules.encode H (e ∷ [])) ∙ ap (λ l. header rules.kind Z ++ l) (blocks-append (map rules.encode H) (rules.encode e ∷ []))
         ∙ sym (append_assoc (header rules.kind Z) (blocks (map rules.encode H)) one) in
-      let of_one : length one ≡ 3 + length (rules.encode e) = ap (λ l. 3 + length l) (append-nil (rules.encode e)) in
+      let of_one : length one ≡ length (rules.encode e) + 3 = omega (arith, ap length (append-nil (rules.encode e))) in
       ap length split ∙ length-append front one ∙ omega (arith, of_one, holds.stored.at.place)
 
   pub no_room : (e : Entry I) → (HasRoomForEntry rules engine e → ⊥) → HasNoRoomBehind rules Z H e
@@ -59,4 +59,34 @@ module _ {I M : Type 0} (rules : Rules I) (view : M → MachineView I) (line : L
         next = q.next;
         comes = comes_more (H ++ whole.entries) q.more rest q.next (subst (λ G. ComesNext rules Z G q.more q.next) back q.comes);
         too_much = subst (λ G. IsTooMuch rules view Z G q.next) back q.too_much;
+      }
+
+  -- nothing changed since these items were taken, and the next entry has no room
+  pub full_now : (items : List I) (start now new : BoardView) (engine next : Engine M I) (before after : Option (List ℕ)) (p : Runs rules view line Z H items start now engine before after) → new ≡ now → next ≡ engine
+      → (e : Entry I) → ComesNext rules Z (H ++ p.entries) [] e → IsTooMuch rules view Z (H ++ p.entries) e → StopsFull rules view line Z H items start new next before after
+  full_now items start now new engine next before after p same same' e comes too_much =
+      let back : StopsFull rules view line Z H items start now engine before after = record {
+        so_far = items;
+        more = [];
+        split = append-nil items;
+        runs = p;
+        next = e;
+        comes = comes;
+        too_much = too_much;
+      } in
+      subst (λ v. StopsFull rules view line Z H items start v next before after) (sym same) (subst (λ n. StopsFull rules view line Z H items start now n before after) (sym same') back)
+
+  -- nothing was taken, and the item has no room
+  pub full_at_once : (item : I) (now : BoardView) (engine : Engine M I) (written : Option (List ℕ)) → IsSound now → IsTrue now.tells → Holds rules view Z H now engine → rules.pending Z H ≡ None → IsTooMuch rules view Z H (Item item)
+      → StopsFull rules view line Z H (item ∷ []) now now engine written written
+  full_at_once item now engine written sound tells holds idle too_much =
+      let r = runs_start rules view line Z H now engine written sound tells holds in
+      let back : H ≡ H ++ r.entries = sym (append-nil H) ∙ ap (λ l. H ++ l) (sym (start_entries rules view line Z H now engine written sound tells holds)) in record {
+        so_far = [];
+        more = item ∷ [];
+        split = refl;
+        runs = r;
+        next = Item item;
+        comes = (ap (rules.pending Z) (sym back) ∙ idle, [], refl);
+        too_much = subst (λ G. IsTooMuch rules view Z G (Item item)) back too_much;
       }

@@ -19,12 +19,12 @@ use Rattle.pef_engine.proofs.OnLine.{prescribed-append}
 use Rattle.pef_engine.proofs.Stored.{images_stand, nothing_moments}
 use Rattle.pef_engine.proofs.Compose.{leaves_behind, leaves_compose}
 
-entry_items-append : {I : Type 0} (K L : List (Entry I)) → entry_items (K ++ L) ≡ entry_items K ++ entry_items L
+pub entry_items-append : {I : Type 0} (K L : List (Entry I)) → entry_items (K ++ L) ≡ entry_items K ++ entry_items L
 entry_items-append [] L = refl
 entry_items-append (Item item ∷ K) L = ap (λ l. item ∷ l) (entry_items-append K L)
 entry_items-append (Outcome t ∷ K) L = entry_items-append K L
 
-entry_tolds-append : {I : Type 0} (K L : List (Entry I)) → entry_tolds (K ++ L) ≡ entry_tolds K ++ entry_tolds L
+pub entry_tolds-append : {I : Type 0} (K L : List (Entry I)) → entry_tolds (K ++ L) ≡ entry_tolds K ++ entry_tolds L
 entry_tolds-append [] L = refl
 entry_tolds-append (Item item ∷ K) L = entry_tolds-append K L
 entry_tolds-append (Outcome t ∷ K) L = ap (λ l. t ∷ l) (entry_tolds-append K L)

@@ -15,15 +15,15 @@ use Rattle.pef_engine.specs.MachineView.{MachineView}
 use Rattle.pef_engine.specs.Lines.{LeavesPrefix}
 use Rattle.pef_engine.specs.Engine.{Holds}
 use Rattle.script_run.specs.declared.stop.Stop.{Stop}
-use Rattle.script_run.specs.declared.stop.Stop.TheVariants.{Line, Unfinished, Input, Disk, Output, Full, Memory}
+use Rattle.script_run.specs.declared.stop.Stop.TheVariants.{Unformatted, Line, Unfinished, Input, Disk, Output, Full, Memory}
 use Rattle.script_run.specs.Scripts.{ScriptRules}
 use Rattle.script_run.specs.Items.{rest_of, closing_of}
-use Rattle.script_run.specs.Run.{Runs, StopsFull, IsDone, IsTaken, Answers, RunsLines, Takes, IsStepStop}
+use Rattle.script_run.specs.Run.{Runs, StopsFull, IsIdle, IsTaken, Answers, RunsGiven, Takes, IsStepStop}
 use Rattle.script_run.proofs.RunLemmas.{runs_start, runs_compose, moments_of, moments_after}
 use Rattle.script_run.proofs.RoomLemmas.{full_behind}
 
 -- what a line gives
-given_event : (text rest : List ℕ) (line octets : List ℕ) (left number : ℕ) → lines_of text ≡ line ∷ lines_of rest → form_of_line line ≡ Some (EventForm octets) → 0 < left
+pub given_event : (text rest : List ℕ) (line octets : List ℕ) (left number : ℕ) → lines_of text ≡ line ∷ lines_of rest → form_of_line line ≡ Some (EventForm octets) → 0 < left
     → given (lines_of text) left number ≡ give_event octets (given (lines_of rest) (left - 1) (number + 1))
 given_event text rest line octets zero number lines form some = absurd (omega (arith, some))
 given_event text rest line octets (suc left) number lines form some =
@@ -41,7 +41,7 @@ given_too_few text rest line zero number lines form some = absurd (omega (arith,
 given_too_few text rest line (suc left) number lines form some =
     ap (λ l. given l (suc left) number) lines ∙ ap (λ f. given_by f (suc left) number (λ fewer. given (lines_of rest) fewer (number + 1))) form
 
-given_end : (text rest line : List ℕ) (left number : ℕ) → lines_of text ≡ line ∷ lines_of rest → form_of_line line ≡ Some End → left ≡ 0 → given (lines_of text) left number ≡ record { events = []; bad = None }
+pub given_end : (text rest line : List ℕ) (left number : ℕ) → lines_of text ≡ line ∷ lines_of rest → form_of_line line ≡ Some End → left ≡ 0 → given (lines_of text) left number ≡ record { events = []; bad = None }
 given_end text rest line left number lines form none =
     ap (λ l. given l left number) lines ∙ ap (λ f. given_by f left number (λ fewer. given (lines_of rest) fewer (number + 1))) form
     ∙ ap (λ n. given_by (Some End) n number (λ fewer. given (lines_of rest) fewer (number + 1))) none
@@ -69,6 +69,7 @@ module _ {I : Type 0} (scripts : ScriptRules I) where
 -- a fault stops it
 abbrev pub IsFault : Stop → Type 0
 IsFault (Line number) = ⊥
+IsFault Unformatted = ⊥
 IsFault (Unfinished id count) = ⊥
 IsFault Input = Unit {0}
 IsFault Disk = Unit {0}
@@ -84,6 +85,7 @@ step_fault Memory step = tt
 step_fault Input step = absurd step
 step_fault (Unfinished id count) step = absurd step
 step_fault (Line number) step = absurd step
+step_fault Unformatted step = absurd step
 
 module _ {I M : Type 0} (rules : Rules I) (view : M → MachineView I) (says : List ℕ → List (Entry I) → Entry I → List ℕ) (scripts : ScriptRules I) (Z : List ℕ) (H : List (Entry I)) (text : List ℕ) (count taken : ℕ) (start : BoardView) where
   -- all that the lines give
@@ -143,46 +145,33 @@ module _ {I M : Type 0} (rules : Rules I) (view : M → MachineView I) (says : L
       }
 
   -- the same items in another spelling
-  is_done : (items : List I) (now : BoardView) (engine : Engine M I) (before after : Option (List ℕ)) → (r : Runs rules view says Z H items start now engine before after) → items ≡ all
-      → rules.pending Z (H ++ r.entries) ≡ None → IsDone rules view says Z H all start now engine before after
-  is_done items now engine before after r is idle = record {
-    runs = record {
-      entries = r.entries;
-      lawful = r.lawful;
-      taken = r.taken ∙ is;
-      holds = r.holds;
-      steps = r.steps;
-      issued = r.issued;
-      told = r.told;
-      prescribes = r.prescribes;
-      moments = subst (λ i. LeavesOnly start now (LeavesPrefix rules Z H start i)) is r.moments;
-      written = r.written;
-    };
-    idle = idle;
-  }
+  same_items : (items : List I) (now : BoardView) (engine : Engine M I) (before after : Option (List ℕ)) → Runs rules view says Z H items start now engine before after → items ≡ all → Runs rules view says Z H all start now engine before after
+  same_items items now engine before after r is = subst (λ i. Runs rules view says Z H i start now engine before after) is r
 
   -- a bad line stops it
   pub stops_text : (now : BoardView) (engine : Engine M I) (before after : Option (List ℕ)) (held : List ℕ) (source : Option (List ℕ)) (skip left number items : ℕ)
       → (t : Takes rules view says scripts Z H text count taken start now engine before after held source skip left number items) → given (lines_of t.rest) left number ≡ bad_at number
-      → rules.pending Z (H ++ t.runs.entries) ≡ None → RunsLines rules view says scripts Z H text count taken start now engine before after (Err (Line number))
-  stops_text now engine before after held source skip left number items t e idle =
+      → RunsGiven rules view says Z H all (given (lines_of text) count 2).bad start now engine before after (Err (Line number))
+  stops_text now engine before after held source skip left number items t e =
       let is : t.so_far ++ [] ≡ all = ap (λ l. t.so_far ++ l) (sym (ap (rest_of scripts skip) e ∙ rest_ended scripts skip (Some number))) ∙ t.split in record {
         answers = sym t.bad ∙ ap (λ (g : Given). g.bad) e;
         number = tt;
         moments = moments_of rules view says Z H t.so_far [] all start now engine before after t.runs is;
-        runs = λ _. is_done t.so_far now engine before after t.runs (sym (append-nil t.so_far) ∙ is) idle;
+        runs = λ _. same_items t.so_far now engine before after t.runs (sym (append-nil t.so_far) ∙ is);
+        idle = tt;
         full = λ err. absurd (cc err);
       }
 
   pub fault_text : (now : BoardView) (engine : Engine M I) (before after : Option (List ℕ)) (stop : Stop) → IsFault stop → LeavesOnly start now (LeavesPrefix rules Z H start all)
-      → (stop ≡ Full → StopsFull rules view says Z H all start now engine before after) → RunsLines rules view says scripts Z H text count taken start now engine before after (Err stop)
-  fault_text now engine before after Input fault m full = record { answers = tt; number = tt; moments = m; runs = λ h. absurd h; full = λ err. absurd (cc err) }
-  fault_text now engine before after Disk fault m full = record { answers = tt; number = tt; moments = m; runs = λ h. absurd h; full = λ err. absurd (cc err) }
-  fault_text now engine before after Output fault m full = record { answers = tt; number = tt; moments = m; runs = λ h. absurd h; full = λ err. absurd (cc err) }
-  fault_text now engine before after Full fault m full = record { answers = tt; number = tt; moments = m; runs = λ h. absurd h; full = λ err. full refl }
-  fault_text now engine before after Memory fault m full = record { answers = tt; number = tt; moments = m; runs = λ h. absurd h; full = λ err. absurd (cc err) }
+      → (stop ≡ Full → StopsFull rules view says Z H all start now engine before after) → RunsGiven rules view says Z H all (given (lines_of text) count 2).bad start now engine before after (Err stop)
+  fault_text now engine before after Input fault m full = record { answers = tt; number = tt; moments = m; runs = λ h. absurd h; idle = tt; full = λ err. absurd (cc err) }
+  fault_text now engine before after Disk fault m full = record { answers = tt; number = tt; moments = m; runs = λ h. absurd h; idle = tt; full = λ err. absurd (cc err) }
+  fault_text now engine before after Output fault m full = record { answers = tt; number = tt; moments = m; runs = λ h. absurd h; idle = tt; full = λ err. absurd (cc err) }
+  fault_text now engine before after Full fault m full = record { answers = tt; number = tt; moments = m; runs = λ h. absurd h; idle = tt; full = λ err. full refl }
+  fault_text now engine before after Memory fault m full = record { answers = tt; number = tt; moments = m; runs = λ h. absurd h; idle = tt; full = λ err. absurd (cc err) }
   fault_text now engine before after (Unfinished id count) fault m full = absurd fault
   fault_text now engine before after (Line number) fault m full = absurd fault
+  fault_text now engine before after Unformatted fault m full = absurd fault
 
   pub takes_moments : (now : BoardView) (engine : Engine M I) (before after : Option (List ℕ)) (held : List ℕ) (source : Option (List ℕ)) (skip left number items : ℕ)
       → (t : Takes rules view says scripts Z H text count taken start now engine before after held source skip left number items) → LeavesOnly start now (LeavesPrefix rules Z H start all)
@@ -194,7 +183,7 @@ module _ {I M : Type 0} (rules : Rules I) (view : M → MachineView I) (says : L
       → (t : Takes rules view says scripts Z H text count taken start now engine one two held source skip left number items) → GivesForm t.rest next later (Some (EventForm octets)) → 0 < left → skip ≡ 0 → IsStepStop stop
       → LeavesOnly now new (LeavesPrefix rules Z (H ++ t.runs.entries) now (scripts.event octets ∷ []))
       → (stop ≡ Full → StopsFull rules view says Z (H ++ t.runs.entries) (scripts.event octets ∷ []) now new after_it two three)
-      → RunsLines rules view says scripts Z H text count taken start new after_it one three (Err stop)
+      → RunsGiven rules view says Z H all (given (lines_of text) count 2).bad start new after_it one three (Err stop)
   event_fails now new engine after_it one two three held next source later skip left number items octets stop t gives more none step m full =
       let rest = rest_of scripts skip (given (lines_of gives.rest) (left - 1) (number + 1)) in
       let is = event_first now engine one two held next source later skip left number items octets t gives more none in
@@ -210,15 +199,16 @@ module _ {I M : Type 0} (rules : Rules I) (view : M → MachineView I) (says : L
   -- the closing item is taken, and all is done
   pub ends_text : (now new : BoardView) (engine after_it : Engine M I) (one two three : Option (List ℕ)) (held next : List ℕ) (source later : Option (List ℕ)) (skip left number items : ℕ)
       → (t : Takes rules view says scripts Z H text count taken start now engine one two held source skip left number items) → GivesForm t.rest next later (Some End) → left ≡ 0
-      → (r : Runs rules view says Z (H ++ t.runs.entries) (scripts.closing ∷ []) now new after_it two three) → ((G : List (Entry I)) → Holds rules view Z G new after_it → rules.pending Z G ≡ None)
-      → RunsLines rules view says scripts Z H text count taken start new after_it one three (Ok (items + 1))
+      → (r : Runs rules view says Z (H ++ t.runs.entries) (scripts.closing ∷ []) now new after_it two three) → IsIdle rules view Z new after_it
+      → RunsGiven rules view says Z H all (given (lines_of text) count 2).bad start new after_it one three (Ok (items + 1))
   ends_text now new engine after_it one two three held next source later skip left number items t gives none r idle =
       let is = close_is now engine one two held next source later skip left number items t gives none in
       let whole = runs_compose rules view says Z H t.so_far (scripts.closing ∷ []) start now new engine after_it one two three t.runs r in record {
         answers = sym t.bad ∙ ap (λ (g : Given). g.bad) (given_end t.rest gives.rest gives.line left number gives.lines gives.has none);
         number = omega (arith, t.counted, length-append t.so_far (scripts.closing ∷ []), ap length is);
         moments = moments_of rules view says Z H (t.so_far ++ scripts.closing ∷ []) [] all start new after_it one three whole (append-nil (t.so_far ++ scripts.closing ∷ []) ∙ is);
-        runs = λ _. is_done (t.so_far ++ scripts.closing ∷ []) new after_it one three whole is (idle (H ++ whole.entries) whole.holds);
+        runs = λ _. same_items (t.so_far ++ scripts.closing ∷ []) new after_it one three whole is;
+        idle = idle;
         full = λ err. absurd (cc err);
       }
 
@@ -227,7 +217,7 @@ module _ {I M : Type 0} (rules : Rules I) (view : M → MachineView I) (says : L
       → (t : Takes rules view says scripts Z H text count taken start now engine one two held source skip left number items) → GivesForm t.rest next later (Some End) → left ≡ 0 → IsStepStop stop
       → LeavesOnly now new (LeavesPrefix rules Z (H ++ t.runs.entries) now (scripts.closing ∷ []))
       → (stop ≡ Full → StopsFull rules view says Z (H ++ t.runs.entries) (scripts.closing ∷ []) now new after_it two three)
-      → RunsLines rules view says scripts Z H text count taken start new after_it one three (Err stop)
+      → RunsGiven rules view says Z H all (given (lines_of text) count 2).bad start new after_it one three (Err stop)
   close_fails now new engine after_it one two three held next source later skip left number items stop t gives none step m full =
       let is = close_is now engine one two held next source later skip left number items t gives none in
       fault_text new after_it one three stop (step_fault stop step)

@@ -15,7 +15,7 @@ use Rattle.script_text.specs.Lines.{lines_of}
 use Rattle.script_text.specs.Reading.{HasLeft}
 use Rattle.script_text.specs.Script.{Given, given}
 use Rattle.script_run.specs.declared.stop.Stop.{Stop}
-use Rattle.script_run.specs.declared.stop.Stop.TheVariants.{Line, Unfinished, Input, Disk, Output, Full, Memory}
+use Rattle.script_run.specs.declared.stop.Stop.TheVariants.{Unformatted, Line, Unfinished, Input, Disk, Output, Full, Memory}
 use Rattle.script_run.specs.Scripts.{ScriptRules, Awaits}
 use Rattle.script_run.specs.Items.{rest_of}
 use Rattle.script_run.specs.Report.{report_from}
@@ -71,6 +71,7 @@ pub record StopsFull {I M : Type 0} (rules : Rules I) (view : M → MachineView 
 -- the disk, the sink or the room stopped it, or want of memory
 abbrev pub IsStepStop : Stop → Type 0
 IsStepStop (Line number) = ⊥
+IsStepStop Unformatted = ⊥
 IsStepStop (Unfinished id count) = ⊥
 IsStepStop Input = ⊥
 IsStepStop Disk = ⊤
@@ -87,15 +88,15 @@ pub record IsReadyFor {I : Type 0} (rules : Rules I) (scripts : ScriptRules I) (
   pub idle : view.due ≡ None
   pub awaits : Awaits (scripts.script_of history) count taken
 
--- these items were taken and settled, and nothing is pending
-pub record IsDone {I M : Type 0} (rules : Rules I) (view : M → MachineView I) (line : List ℕ → List (Entry I) → Entry I → List ℕ) (Z : List ℕ) (H : List (Entry I)) (items : List I) (start now : BoardView) (engine : Engine M I) (before after : Option (List ℕ)) : Type 0 where
-  pub runs : Runs rules view line Z H items start now engine before after
-  pub idle : rules.pending Z (H ++ runs.entries) ≡ None
+-- nothing is pending in the history that the engine holds
+abbrev pub IsIdle : {I M : Type 0} → Rules I → (M → MachineView I) → List ℕ → BoardView → Engine M I → Type 0
+IsIdle {I} rules view Z now engine = (G : List (Entry I)) → Holds rules view Z G now engine → rules.pending Z G ≡ None
 
 -- it ended, or stopped at a bad line
 abbrev pub IsTaken : {A : Type 0} → Result A Stop → Type 0
 IsTaken (Ok x) = ⊤
 IsTaken (Err (Line number)) = ⊤
+IsTaken (Err Unformatted) = ⊥
 IsTaken (Err (Unfinished id count)) = ⊥
 IsTaken (Err Input) = ⊥
 IsTaken (Err Disk) = ⊥
@@ -103,25 +104,28 @@ IsTaken (Err Output) = ⊥
 IsTaken (Err Full) = ⊥
 IsTaken (Err Memory) = ⊥
 
--- what a run of lines answers: at Ok all that they give was taken and their last is good; it stops at the first bad line
-abbrev pub Answers : {A : Type 0} → Given → Result A Stop → Type 0
-Answers given (Ok x) = given.bad ≡ None
-Answers given (Err (Line number)) = given.bad ≡ Some number
-Answers given (Err (Unfinished id count)) = ⊥
-Answers given (Err Input) = ⊤
-Answers given (Err Disk) = ⊤
-Answers given (Err Output) = ⊤
-Answers given (Err Full) = ⊤
-Answers given (Err Memory) = ⊤
+-- what it answers of the first bad line: at Ok there is none; it stops at it
+abbrev pub Answers : {A : Type 0} → Option ℕ → Result A Stop → Type 0
+Answers bad (Ok x) = bad ≡ None
+Answers bad (Err (Line number)) = bad ≡ Some number
+Answers bad (Err Unformatted) = ⊤
+Answers bad (Err (Unfinished id count)) = ⊤
+Answers bad (Err Input) = ⊤
+Answers bad (Err Disk) = ⊤
+Answers bad (Err Output) = ⊤
+Answers bad (Err Full) = ⊤
+Answers bad (Err Memory) = ⊤
 
--- The lines of a text were run: at Ok all that they give is in the history, and said; at a bad line all before it; where there
--- was no room, all up to the next entry; and a crash leaves a prefix of the run without a crash.
-pub record RunsLines {I M : Type 0} (rules : Rules I) (view : M → MachineView I) (line : List ℕ → List (Entry I) → Entry I → List ℕ) (scripts : ScriptRules I) (Z : List ℕ) (H : List (Entry I)) (text : List ℕ) (count taken : ℕ) (start now : BoardView) (engine : Engine M I) (before after : Option (List ℕ)) (result : Result ℕ Stop) : Type 0 where
-  pub answers : Answers (given (lines_of text) count 2) result
-  pub number : IfOk result (λ n. n ≡ length (rest_of scripts taken (given (lines_of text) count 2)))
-  pub moments : LeavesOnly start now (LeavesPrefix rules Z H start (rest_of scripts taken (given (lines_of text) count 2)))
-  pub runs : IsTaken result → IsDone rules view line Z H (rest_of scripts taken (given (lines_of text) count 2)) start now engine before after
-  pub full : IsErrOf result Full → StopsFull rules view line Z H (rest_of scripts taken (given (lines_of text) count 2)) start now engine before after
+-- A text that gives these items and has this first bad line was run: at Ok all of them are in the history, and said, and nothing is
+-- pending; at a bad line all of them too; where there was no room, those up to the next entry; and a crash leaves a prefix of the run
+-- without a crash.
+pub record RunsGiven {I M : Type 0} (rules : Rules I) (view : M → MachineView I) (line : List ℕ → List (Entry I) → Entry I → List ℕ) (Z : List ℕ) (H : List (Entry I)) (items : List I) (bad : Option ℕ) (start now : BoardView) (engine : Engine M I) (before after : Option (List ℕ)) (result : Result ℕ Stop) : Type 0 where
+  pub answers : Answers bad result
+  pub number : IfOk result (λ n. n ≡ length items)
+  pub moments : LeavesOnly start now (LeavesPrefix rules Z H start items)
+  pub runs : IsTaken result → Runs rules view line Z H items start now engine before after
+  pub idle : OnOk result (IsIdle rules view Z now engine)
+  pub full : IsErrOf result Full → StopsFull rules view line Z H items start now engine before after
 
 -- So far these items of a text were taken; the rest of its lines give the others.
 pub record Takes {I M : Type 0} (rules : Rules I) (view : M → MachineView I) (line : List ℕ → List (Entry I) → Entry I → List ℕ) (scripts : ScriptRules I) (Z : List ℕ) (H : List (Entry I)) (text : List ℕ) (count taken : ℕ) (start now : BoardView) (engine : Engine M I) (before after : Option (List ℕ)) (held : List ℕ) (source : Option (List ℕ)) (skip left number items : ℕ) : Type 0 where
@@ -132,3 +136,9 @@ pub record Takes {I M : Type 0} (rules : Rules I) (view : M → MachineView I) (
   pub split : so_far ++ rest_of scripts skip (given (lines_of rest) left number) ≡ rest_of scripts taken (given (lines_of text) count 2)
   pub bad : (given (lines_of rest) left number).bad ≡ (given (lines_of text) count 2).bad
   pub counted : items ≡ length so_far
+
+-- so far the lines of a text were read and are good
+pub record Passes (text : List ℕ) (count : ℕ) (held : List ℕ) (source : Option (List ℕ)) (left number : ℕ) : Type 0 where
+  pub rest : List ℕ
+  pub unread : HasLeft held source rest
+  pub bad : (given (lines_of rest) left number).bad ≡ (given (lines_of text) count 2).bad

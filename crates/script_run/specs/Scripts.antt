@@ -1,5 +1,5 @@
 -- What scripts mean to a machine.
-use Rattle.std.specs.Prelude.{◌≡◌, ⊤, ℕ, ◌+◌, ◌≤◌, ◌<◌, ◌^◌, Bool, true, false, IsTrue, IsFalse, List, [], ◌∷◌, ◌++◌, length, Option, Some, None}
+use Rattle.std.specs.Prelude.{◌≡◌, ⊤, ℕ, ◌+◌, ◌≤◌, ◌<◌, ◌^◌, Bool, true, false, if◌then◌else◌, IsTrue, IsFalse, List, [], ◌∷◌, ◌++◌, length, Option, Some, None}
 use Rattle.pef_engine.specs.declared.entry.Entry.{Entry}
 use Rattle.pef_engine.specs.declared.entry.Entry.TheVariants.{Item, Outcome}
 use Rattle.pef_engine.specs.declared.script.Script.{Script}
@@ -48,6 +48,6 @@ pub record IsScripted {I : Type 0} (rules : Rules I) (scripts : ScriptRules I) :
   pub behind_opening : (H : List (Entry I)) (id count : ℕ) → scripts.script_of (H ++ Item (scripts.opening id count) ∷ []) ≡ Some (record { id = id; count = count; taken = 0; closed = false })
   pub behind_closing : (H : List (Entry I)) → scripts.script_of (H ++ Item scripts.closing ∷ []) ≡ closed (scripts.script_of H)
   pub within : (Z : List ℕ) (H : List (Entry I)) → Lawful rules Z H → IsWithin (scripts.script_of H)
-  pub event_may : (Z : List ℕ) (H : List (Entry I)) (octets : List ℕ) (count taken : ℕ) → length octets ≡ 16 → Awaits (scripts.script_of H) count taken → taken < count → rules.may_take Z H (scripts.event octets)
-  pub opening_may : (Z : List ℕ) (H : List (Entry I)) (id count : ℕ) → (IsUnfinished (scripts.script_of H) → ⊥) → id < 2 ^ 32 → count ≤ 1_000_000 → rules.may_take Z H (scripts.opening id count)
+  pub event_may : (Z : List ℕ) (H : List (Entry I)) (octets : List ℕ) (count taken : ℕ) → rules.is_entry (Item (scripts.event octets)) → Awaits (scripts.script_of H) count taken → taken < count → rules.may_take Z H (scripts.event octets)
+  pub opening_may : (Z : List ℕ) (H : List (Entry I)) (id count : ℕ) → rules.is_entry (Item (scripts.opening id count)) → (IsUnfinished (scripts.script_of H) → ⊥) → count ≤ 1_000_000 → rules.may_take Z H (scripts.opening id count)
   pub closing_may : (Z : List ℕ) (H : List (Entry I)) (count : ℕ) → Awaits (scripts.script_of H) count count → rules.may_take Z H scripts.closing

@@ -1,6 +1,7 @@
 //! Running a script over any machine, board, source and sink.
 #![tactic(auto)]
 
+mod course;
 mod report;
 mod scripted;
 mod settling;

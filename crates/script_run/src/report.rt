@@ -1,5 +1,6 @@
 //! The lines of the report: one for each entry that was stored.
-ghost use Rattle.std.specs.Prelude.{◌≡◌, ◌≤◌, ℕ, List, [], ◌∷◌, ◌++◌, length, IsErr, IsErrOf};
+ghost use Rattle.std.specs.Prelude.{◌≡◌, ◌≤◌, ℕ, List, [], ◌∷◌, ◌++◌, ◌+◌, ◌*◌, length, decimal, Option, IsErr, IsErrOf};
+ghost use Rattle.hex.specs.Hex.{encode_lower};
 ghost use Rattle.board_core.specs.Causes.{Rose};
 ghost use Rattle.board_core.specs.Source.{Appends};
 ghost use Rattle.pef_engine.specs.declared.entry.Entry.{Entry};
@@ -83,6 +84,14 @@ fn told_name(told: Told) -> &'static [u8]
     }
 }
 
+// Appends a part of a line, which has room for it.
+fn add(line: &mut ReportLine, part: &[u8])
+    requires { length line.old + length part.now ≤ 1200 }
+    ensures { line.new ≡ line.old ++ part.now }
+{
+    let _ = line.extend(part);
+}
+
 fn act_text(kind: Act, id: u16, told: Told) -> ReportLine
     ensures { result ≡ outcome_line (Option.Some (Step.Act kind id)) told }
 {
@@ -102,17 +111,54 @@ fn act_text(kind: Act, id: u16, told: Told) -> ReportLine
 fn send_text(to: &Address, octets: &Octets, told: Told) -> ReportLine
     ensures { result ≡ outcome_line (Option.Some (Step.Datagram to.now octets.now)) told }
 {
-    let mut digits = [0u8; 1024];
-    let octets = octets.as_slice();
-    let digits = &mut digits[..2 * octets.len()];
-    let _ = encode_to_slice(octets, digits);
+    octets.fits();
     let mut line = ReportLine::new();
-    let _ = line.extend(b"send ".as_slice());
+    add(&mut line, b"send ".as_slice());
     address(&mut line, to);
-    let _ = line.extend(b" ".as_slice());
-    let _ = line.extend(digits);
-    let _ = line.extend(b" ".as_slice());
-    let _ = line.extend(told_name(told));
-    let _ = line.extend(b"\n".as_slice());
+    add(&mut line, b" ".as_slice());
+    digits(&mut line, octets.as_slice());
+    add(&mut line, b" ".as_slice());
+    add(&mut line, told_name(told));
+    add(&mut line, b"\n".as_slice());
     line
+}
+
+// Appends octets as pairs of hexadecimal digits.
+fn digits(line: &mut ReportLine, octets: &[u8])
+    requires { (length octets.now ≤ 512) × (length line.old ≤ 100) }
+    ensures appended { line.new ≡ line.old ++ encode_lower octets.now }
+    ensures long { length line.new ≤ 1124 }
+{
+    let mut room = [0u8; 1024];
+    let pairs = &mut room[..2 * octets.len()];
+    let _ = encode_to_slice(octets, pairs);
+    let _ = line.extend(pairs);
+}
+
+// Appends four decimal numbers with points, a colon and the port.
+fn address(line: &mut ReportLine, to: &Address)
+    requires { length line.old ≤ 8 }
+    ensures appended { line.new ≡ line.old ++ address_text to.now }
+    ensures short { length line.new ≤ length line.old + 60 }
+{
+    number(line, u32::from(to.ip[0]));
+    add(line, b".".as_slice());
+    number(line, u32::from(to.ip[1]));
+    add(line, b".".as_slice());
+    number(line, u32::from(to.ip[2]));
+    add(line, b".".as_slice());
+    number(line, u32::from(to.ip[3]));
+    add(line, b":".as_slice());
+    number(line, u32::from(to.port));
+}
+
+// Appends a number in decimal digits.
+fn number(line: &mut ReportLine, value: u32)
+    requires { length line.old ≤ 128 }
+    ensures appended { line.new ≡ line.old ++ decimal value }
+    ensures short { length line.new ≤ length line.old + 10 }
+{
+    let mut buffer = Buffer::new();
+    let digits = buffer.format(value);
+    let _ = line.extend(digits.as_bytes());
 }

@@ -22,7 +22,8 @@ pub trait Scripted: Machine {
 
     /// The item that opens a script of `count` items.
     fn opening(id: u32, count: u32) -> Self::Item
-        ensures { result ≡ scripts.opening id count };
+        ensures item { result ≡ scripts.opening id count }
+        ensures entry { Self.rules.is_entry (Entry.Item result) };
 
     /// The item that closes the open script.
     fn closing() -> Self::Item
@@ -30,7 +31,8 @@ pub trait Scripted: Machine {
 
     /// The item of a line `event`, an event record as in IPMI 2.0, section 32.1.
     fn event(octets: [u8; 16]) -> Self::Item
-        ensures { result ≡ scripts.event octets };
+        ensures item { result ≡ scripts.event octets }
+        ensures entry { Self.rules.is_entry (Entry.Item result) };
 
     /// The report's line of the item that was taken last.
     fn say(&self, item: &Self::Item) -> ReportLine

@@ -7,6 +7,8 @@ use pef_engine::EngineFault;
 /// What stopped a run.
 #[derive(Clone, Copy, Debug, PartialEq, Eq)]
 pub enum Stop {
+    /// The file stands for no lawful history of the machine's kind.
+    Unformatted,
     /// This line is the first bad one, counted from 1.
     Line(u32),
     /// Another script was begun and isn't finished: its id and its count.

@@ -6,8 +6,9 @@ ghost use Rattle.pef_engine.specs.Engine.{Holds, IsLive, HasPlace};
 ghost use Rattle.script_text.specs.Lines.{lines_of};
 ghost use Rattle.script_text.specs.Reading.{HasLeft};
 ghost use Rattle.script_text.specs.Script.{given, GivesForm};
+ghost use Rattle.script_run.specs.Items.{rest_of};
 ghost use Rattle.script_run.specs.Report.{says};
-ghost use Rattle.script_run.specs.Run.{RunsLines, IsReadyFor, Answers};
+ghost use Rattle.script_run.specs.Run.{RunsGiven, IsReadyFor, Answers};
 
 use crate::scripted::Scripted;
 use crate::settling::take_one;
@@ -26,14 +27,14 @@ pub(crate) fn take_lines<M: Scripted, B: Board, S: Source, K: Sink>(engine: &mut
     requires ready { IsReadyFor M.rules M.scripts (M.view engine.old.machine) count taken }
     ensures runs { IsTrue (B.view board.new).tells → (Z : List ℕ) (H : List (Entry M.Item)) (text : List ℕ) →
         Holds M.rules M.view Z H (B.view board.old) engine.old → HasLeft reader.old (S.left source.old) text →
-        RunsLines M.rules M.view (says M.rules M.scripts) M.scripts Z H text count taken (B.view board.old) (B.view board.new) engine.new (K.written out.old) (K.written out.new) result }
+        RunsGiven M.rules M.view (says M.rules M.scripts) Z H (rest_of M.scripts taken (given (lines_of text) count 2)) (given (lines_of text) count 2).bad (B.view board.old) (B.view board.new) engine.new (K.written out.old) (K.written out.new) result }
     ensures tells { IsTrue (B.view board.new).tells → IsTrue (B.view board.old).tells }
     ensures faults { ((B.view board.old).disk_faults ≤ (B.view board.new).disk_faults) × (K.faults out.old ≤ K.faults out.new) × (S.faults source.old ≤ S.faults source.new) }
     ensures disk { IsErrOf result Stop.Disk → Rose (B.view board.old).disk_faults (B.view board.new).disk_faults }
     ensures output { IsErrOf result Stop.Output → Rose (K.faults out.old) (K.faults out.new) }
     ensures input { IsErrOf result Stop.Input → Rose (S.faults source.old) (S.faults source.new) }
     ensures memory { IsErrOf result Stop.Memory → IsTrue M.rules.takes_memory }
-    ensures unfinished { (id count : ℕ) → IsErrOf result (Stop.Unfinished id count) → ⊥ }
+    ensures other { ((id count : ℕ) → IsErrOf result (Stop.Unfinished id count) → ⊥) × (IsErrOf result Stop.Unformatted → ⊥) }
 {
     let mut skip = taken;
     let mut left = count;
@@ -83,10 +84,10 @@ pub(crate) fn take_lines<M: Scripted, B: Board, S: Source, K: Sink>(engine: &mut
 /// Reads and checks the lines of a script that was closed before.
 pub(crate) fn pass_over<S: Source>(source: &mut S, reader: &mut Reader, count: u32) -> Result<(), Stop>
     requires count { count ≤ 1000000 }
-    ensures answers { (text : List ℕ) → HasLeft reader.old (S.left source.old) text → Answers (given (lines_of text) count 2) result }
+    ensures answers { (text : List ℕ) → HasLeft reader.old (S.left source.old) text → Answers (given (lines_of text) count 2).bad result }
     ensures input { IsErrOf result Stop.Input → Rose (S.faults source.old) (S.faults source.new) }
     ensures faults { S.faults source.old ≤ S.faults source.new }
-    ensures other { (IsErrOf result Stop.Disk → ⊥) × (IsErrOf result Stop.Output → ⊥) × (IsErrOf result Stop.Full → ⊥) × (IsErrOf result Stop.Memory → ⊥)
+    ensures other { (IsErrOf result Stop.Disk → ⊥) × (IsErrOf result Stop.Output → ⊥) × (IsErrOf result Stop.Full → ⊥) × (IsErrOf result Stop.Memory → ⊥) × (IsErrOf result Stop.Unformatted → ⊥)
         × ((id count : ℕ) → IsErrOf result (Stop.Unfinished id count) → ⊥) }
 {
     let mut left = count;
