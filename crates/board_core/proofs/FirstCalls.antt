@@ -1,5 +1,5 @@
 -- The first calls of a list, up to the first that fails a test.
-use Rattle.std.proofs.Common.{◌≡◌, ◌≤◌, Bool, true, false, cond, List, [], ◌∷◌, ◌++◌, sym, ◌∙◌, ap, subst, arith}
+use Rattle.std.proofs.Common.{◌≡◌, ℕ, zero, suc, ◌≤◌, take, Bool, true, false, cond, List, [], ◌∷◌, ◌++◌, sym, ◌∙◌, ap, subst, arith}
 use Rattle.std.specs.List.{take_while}
 use Rattle.std.proofs.lemmas.List.Sums.{take_while-cons}
 use Rattle.board_core.specs.declared.call.Call.{Call}
@@ -30,3 +30,8 @@ issued_while q s (c ∷ calls) =
     subst (λ l. (after_all s l).issued ≤ (after_all s (c ∷ calls)).issued) (sym (take_while-cons q c calls))
     (elim (q c) as (λ b. (after_all s (cond b (c ∷ take_while q calls) [])).issued ≤ (after_all s (c ∷ calls)).issued)
     [ true ↦ issued_while q (after s c.effect) calls | false ↦ issued_all s (c ∷ calls) ])
+
+pub issued_take : (s : State) (count : ℕ) (calls : List Call) → (after_all s (take count calls)).issued ≤ (after_all s calls).issued
+issued_take s zero calls = issued_all s calls
+issued_take s (suc count) [] = omega arith
+issued_take s (suc count) (c ∷ calls) = issued_take (after s c.effect) count calls

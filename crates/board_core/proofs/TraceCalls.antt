@@ -19,7 +19,7 @@ torn_same : (place count : ℕ) (file : List ℕ) → Torn place count file file
 torn_same place count file = record { before = refl; after = refl; no_shorter = omega arith; no_longer = omega arith }
 
 -- a write that is done whole is one that a crash could have cut short
-whole_is_torn : (place : ℕ) (octets file : List ℕ) → place ≤ length file → Torn place (length octets) file (put_at place octets file)
+pub whole_is_torn : (place : ℕ) (octets file : List ℕ) → place ≤ length file → Torn place (length octets) file (put_at place octets file)
 whole_is_torn place octets file le = record {
   before = ap (take place) (append_assoc (take place file) octets back) ∙ take_at (take place file) (octets ++ back) place front;
   after = drop_at (take place file ++ octets) back (place + length octets) (omega (arith, front, length-append (take place file) octets));

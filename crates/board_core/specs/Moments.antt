@@ -60,16 +60,16 @@ after_all s (call ∷ calls) = after_all (after s call.effect) calls
 abbrev pub state_after : List ℕ → ℕ → List Call → State
 state_after content earlier calls = after_all (fresh_state content earlier) calls
 
--- each write begins within the file
-abbrev pub is_placed : State → Effect → Bool
-is_placed s (Wrote place octets) = nat_le place (length s.octets)
-is_placed s (Spoiled place count) = nat_le place (length s.octets)
-is_placed s Synced = true
-is_placed s Issued = true
+-- each write begins within the file, which has this length
+abbrev pub is_placed : ℕ → Effect → Bool
+is_placed end (Wrote place octets) = nat_le place end
+is_placed end (Spoiled place count) = nat_le place end
+is_placed end Synced = true
+is_placed end Issued = true
 
 abbrev pub are_placed : State → List Call → Bool
 are_placed s [] = true
-are_placed s (call ∷ calls) = is_placed s call.effect && are_placed (after s call.effect) calls
+are_placed s (call ∷ calls) = is_placed (length s.octets) call.effect && are_placed (after s call.effect) calls
 
 -- what is kept of a board since it was made: the content and the number of steps that it was made with, the calls that
 -- did something, all steps, and the number of all calls

@@ -35,3 +35,12 @@ pub fn padded(alloc: Global, gap: usize, octets: &[u8]) -> Result<Vec<u8>, Alloc
     padded.extend_from_slice(octets)?;
     Ok(padded)
 }
+
+/// So many octets of one value.
+pub fn filled(alloc: Global, count: usize, octet: u8) -> Result<Vec<u8>, AllocError>
+    ensures { IfOk result (λ row. row.items ≡ replicate count octet) }
+{
+    let mut row = Vec::new(alloc);
+    row.resize(count, octet)?;
+    Ok(row)
+}

@@ -4,8 +4,10 @@
 mod board;
 mod bytes;
 mod call;
+mod crash;
 mod failures;
 mod file;
+mod leaving;
 mod memory_board;
 mod memory_sink;
 mod memory_source;

@@ -1,5 +1,6 @@
 // A board in memory.
 use crate::board::{Board, DiskFailed};
+use crate::crash::copies;
 use crate::failures::Failures;
 use crate::file::get;
 use crate::step::{Sent, Step, Told};
@@ -19,8 +20,9 @@ pub struct MemBoard {
 }
 
 impl MemBoard {
-    ghost use Rattle.std.specs.Prelude.{◌≡◌, [], true, IfOk};
+    ghost use Rattle.std.specs.Prelude.{◌≡◌, ◌≤◌, [], true, length, IfOk};
     ghost use Rattle.board_core.specs.MemoryBoard.{memory_view};
+    ghost use Rattle.board_core.specs.Crash.{IsMade, Crashes};
 
     /// A board with this file, on which no step was issued.
     /// The calls of `len`, `read_at`, `write_at` and `sync` are numbered together from 0, and `failing_disk` lists those that
@@ -31,20 +33,42 @@ impl MemBoard {
         failing_disk: &[u64],
         failing_issue: &[u64],
     ) -> Result<MemBoard, AllocError>
-        ensures octets { IfOk result (λ board. (memory_view board).octets ≡ content.now) }
-        ensures sent { IfOk result (λ board. (memory_view board).sent ≡ []) }
-        ensures tells { IfOk result (λ board. (memory_view board).tells ≡ true) }
-        ensures moment { IfOk result (λ board. (memory_view board).moment ≡ 0) }
-        ensures file_calls { IfOk result (λ board. board.file_calls.listed.items ≡ failing_disk.now) }
-        ensures issue_calls { IfOk result (λ board. board.issue_calls.listed.items ≡ failing_issue.now) }
-        ensures next_file { IfOk result (λ board. board.file_calls.next ≡ 0) }
-        ensures next_issue { IfOk result (λ board. board.issue_calls.next ≡ 0) }
-        ensures starved { IfOk result (λ board. board.starved ≡ 0) }
-        ensures disk_faults { IfOk result (λ board. (memory_view board).disk_faults ≡ 0) }
-        ensures issue_faults { IfOk result (λ board. (memory_view board).issue_faults ≡ 0) }
+        ensures { IfOk result (IsMade content.now [] failing_disk.now failing_issue.now) }
+    {
+        MemBoard::made(alloc, content, Vec::new(alloc), failing_disk, failing_issue)
+    }
+
+    /// The board that a crash at a moment leaves, and None exactly where there is no such moment.
+    /// Moment 2k stands after the first k calls on the board, and moment 2k + 1 in the middle of the next one.
+    /// Each octet that a crash may change is `torn`, the file is as long as the disk model allows, and no call is to fail.
+    /// A step in `issue` at that moment counts as issued.
+    pub fn crash(
+        &self,
+        alloc: Global,
+        moment: u64,
+        torn: u8,
+    ) -> Result<Option<MemBoard>, AllocError>
+        ensures { IfOk result (Crashes self.now moment torn) }
+    {
+        if moment / 2 + moment % 2 > self.trace.calls.made {
+            return Ok(None);
+        }
+        let left = self.trace.replay(alloc, moment, torn)?;
+        let sent = copies(alloc, &self.trace.sent[..left.issued])?;
+        Ok(Some(MemBoard::made(alloc, &left.image, sent, &[], &[])?))
+    }
+
+    fn made(
+        alloc: Global,
+        content: &[u8],
+        sent: Vec<Sent>,
+        failing_disk: &[u64],
+        failing_issue: &[u64],
+    ) -> Result<MemBoard, AllocError>
+        ensures { IfOk result (IsMade content.now sent.items failing_disk.now failing_issue.now) }
     {
         Ok(MemBoard {
-            trace: Trace::new(alloc, content, Vec::new(alloc))?,
+            trace: Trace::new(alloc, content, sent)?,
             tells: true,
             file_calls: Failures::new(alloc, failing_disk)?,
             issue_calls: Failures::new(alloc, failing_issue)?,

@@ -11,11 +11,11 @@ use std::alloc::{AllocError, Global};
 pub struct Trace {
     alloc: Global,
     // the file and the number of steps that it began with
-    start: Vec<u8>,
-    earlier: usize,
+    pub start: Vec<u8>,
+    pub earlier: usize,
     pub octets: Vec<u8>,
     pub sent: Vec<Sent>,
-    calls: Calls,
+    pub calls: Calls,
     ghost replayed: { octets.items ≡ (state_after start.items earlier calls.kept.items).octets },
     ghost listed: { (state_after start.items earlier calls.kept.items).issued ≡ length sent.items },
     ghost placed: { are_placed (fresh_state start.items earlier) calls.kept.items ≡ true },
