@@ -23,3 +23,8 @@ pub record FailsExactly (listed : Type 0) (before now : ℕ) (fails : Type 0) : 
   pub where_listed : listed → fails
   pub where_starved : before < now → fails
   pub nowhere_else : fails → listed ⊎ Rose before now
+
+-- no call was made
+pub record IsSameList (old new : Failures) : Type 0 where
+  pub listed : new.listed.items ≡ old.listed.items
+  pub next : new.next ≡ old.next

@@ -4,18 +4,21 @@
 mod board;
 mod bytes;
 mod call;
+mod crash;
 mod failures;
-mod memory;
+mod file;
+mod leaving;
+mod memory_board;
 mod memory_sink;
 mod memory_source;
 mod sink;
 mod source;
 mod step;
+mod trace;
 
 pub use board::{Board, DiskFailed};
 pub use bytes::Bytes;
-pub use call::Call;
-pub use memory::MemBoard;
+pub use memory_board::MemBoard;
 pub use memory_sink::MemSink;
 pub use memory_source::MemSource;
 pub use sink::{Sink, SinkFailed};
