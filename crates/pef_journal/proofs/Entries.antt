@@ -19,4 +19,3 @@ blocks-append (e ∷ es) fs = ap (λ l. 165 ∷ (length e % 256) ∷ (length e /
 pub some_octet : (more : List (List ℕ)) (tail : List ℕ) → HasEntries more tail → 1 ≤ length tail
 some_octet [] tail has = subst (λ l. 1 ≤ length l) (sym has.2) (omega arith)
 some_octet (e ∷ more) tail has = subst (λ l. 1 ≤ length l) (sym has.2) (omega arith)
-

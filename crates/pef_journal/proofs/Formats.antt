@@ -40,9 +40,9 @@ module _ (v w : BoardView) (sound : IsSound v) (lasting : IsTrue v.tells → Onl
   after_read tells =
       let tells_v = reads.call.run.tells tells in
       goes_on v v w (LeavesUnformatted v)
-        (started v (LeavesUnformatted v) sound tells_v (λ left now. (record { issued = now.issued; told = now.told }, λ is. not_yet tells_v (subst IsFormatted (lasting tells_v left.image now.image) is))))
-        reads.call tells
-        (λ left now. (steps_same v w left (reads.call.run.sent tells) now, λ is. not_yet tells_v (subst IsFormatted (only_read tells left.image now.image ∙ reads.octets tells) is)))
+      (started v (LeavesUnformatted v) sound tells_v (λ left now. (record { issued = now.issued; told = now.told }, λ is. not_yet tells_v (subst IsFormatted (lasting tells_v left.image now.image) is))))
+      reads.call tells
+      (λ left now. (steps_same v w left (reads.call.run.sent tells) now, λ is. not_yet tells_v (subst IsFormatted (only_read tells left.image now.image ∙ reads.octets tells) is)))
 
   module _ (x : BoardView) (may : IsTrue w.tells → MayBeMarked v.octets) (call : IsFileCall w x) (images : IsTrue x.tells → Follows (Torn 0 1) w.images x.images) where
     torn_images : IsTrue x.tells → (c : List ℕ) → x.images c → IsFormatted c → ⊥
@@ -62,7 +62,7 @@ module _ (v w : BoardView) (sound : IsSound v) (lasting : IsTrue v.tells → Onl
     after_clear_sync y call_y tells fewer =
         let tells_x = call_y.run.tells tells in
         goes_on v x y (LeavesUnformatted v) (after_clear tells_x) call_y tells
-          (λ left now. (steps_same v y left (call_y.run.sent tells ∙ sent_x tells_x) now, torn_images tells_x left.image (fewer left.image now.image)))
+        (λ left now. (steps_same v y left (call_y.run.sent tells ∙ sent_x tells_x) now, torn_images tells_x left.image (fewer left.image now.image)))
 
     pub cleared : IsTrue x.tells → Holds w.octets 0 (0 ∷ []) x.octets → IsUnmarked v.octets x.octets
     cleared tells holds = (0, λ clash. absurd (cc clash), holds ∙ ap (λ l. 0 ∷ drop 1 l) (reads.octets (call.run.tells tells)))

@@ -36,7 +36,7 @@ pub has_header : (kind : ℕ) (Z file : List ℕ) → HasSettingsLength kind Z �
 has_header kind Z file is heads settings long = (
   is,
   sym (take-append-drop 4 file) ∙ (λ i. heads i ++ drop 4 file)
-    ∙ ap (λ l. head kind (length Z) ++ l) (sym (take-append-drop (length Z) (drop 4 file)) ∙ (λ i. sym settings i ++ drop-drop (length Z) 4 file i)),
+      ∙ ap (λ l. head kind (length Z) ++ l) (sym (take-append-drop (length Z) (drop 4 file)) ∙ (λ i. sym settings i ++ drop-drop (length Z) 4 file i)),
   λ none. absurd (omega (arith, long, length-drop (4 + length Z) file, ap length none)),
 )
 

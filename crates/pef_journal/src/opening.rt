@@ -14,7 +14,11 @@ use board_core::Board;
 impl Journal {
     /// Begins with a sync, reads the settings and stands before the first entry. `settings` has the length of the kind's
     /// settings. `NotFormatted` where the octets aren't those of a file of this kind, `DiskFault` only at a fault.
-    pub fn open<B: Board>(board: &mut B, kind: u8, settings: &mut [u8]) -> Result<Journal, JournalFault>
+    pub fn open<B: Board>(
+        board: &mut B,
+        kind: u8,
+        settings: &mut [u8],
+    ) -> Result<Journal, JournalFault>
         requires { HasSettingsLength kind settings.old }
         // once the sync is done, a crash leaves just what a read gives
         ensures synced { IsTrue (B.view board.new).tells →

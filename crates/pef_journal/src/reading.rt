@@ -13,7 +13,11 @@ use board_core::{Board, Payload};
 impl Journal {
     /// Hands out the next entry in `out`, or answers false at the first closed gate. `Corrupt` where the gate, or the entry
     /// behind it, doesn't lie within the file, `DiskFault` only at a fault. At most two reads, and no memory is taken.
-    pub fn entry<B: Board>(&mut self, board: &mut B, out: &mut Payload) -> Result<bool, JournalFault>
+    pub fn entry<B: Board>(
+        &mut self,
+        board: &mut B,
+        out: &mut Payload,
+    ) -> Result<bool, JournalFault>
         requires { Fits (B.view board.old) self.old }
         ensures file { Reads (B.view board.old) (B.view board.new) }
         ensures entry { IsTrue (B.view board.new).tells → (kind : ℕ) (settings : List ℕ) (before after : List (List ℕ)) →

@@ -43,7 +43,7 @@ read g c = λ tells.
       place = omega (arith, same, ap length (append-nil Y));
       file_length = size;
       lasting = λ image now.
-        c.in_ok-file_length.ensures.lasting tells_w image ((c.read_at.ensures.same.images tells_x image).0 ((c.read_at-2.ensures.same.images tells image).0 now)) ∙ sym (octets_y ∙ octets_x);
+          c.in_ok-file_length.ensures.lasting tells_w image ((c.read_at.ensures.same.images tells_x image).0 ((c.read_at-2.ensures.same.images tells image).0 now)) ∙ sym (octets_y ∙ octets_x);
     }
 
 pub returns-clause-read : goal.returns-clause-read
@@ -58,7 +58,7 @@ returns-clause-ok g c = λ tells.
     let tells_x = c.read_at-2.ensures.same.call.run.tells tells in
     let tells_w = c.read_at.ensures.same.call.run.tells tells_x in
     syncs_reads v x y (LeavesAsRead v) (g.met.B.Board.sound c.read_at.new.self) (g.met.B.Board.sound c.read_at-2.new.self) c.read_at-2.ensures.same tells
-      (syncs_reads v w x (LeavesAsRead v) (g.met.B.Board.sound c.synced_length.new.board) (g.met.B.Board.sound c.read_at.new.self) c.read_at.ensures.same tells_x (c.in_ok-file_length.ensures.ok tells_w))
+    (syncs_reads v w x (LeavesAsRead v) (g.met.B.Board.sound c.synced_length.new.board) (g.met.B.Board.sound c.read_at.new.self) c.read_at.ensures.same tells_x (c.in_ok-file_length.ensures.ok tells_w))
 
 pub returns-clause-synced : goal.returns-clause-synced
 returns-clause-synced g c = λ tells. inr (returns-clause-ok g c tells)
