@@ -1,13 +1,27 @@
 -- What a crash leaves while an entry is added.
 use Rattle.std.proofs.Common.{◌≡◌, ◌≢◌, ◌⊎◌, inl, inr, ⊎_elim, ℕ, ◌+◌, ◌*◌, ◌/◌, ◌%◌, ◌≤◌, max, List, [], ◌∷◌, ◌++◌, length, get_or, take, drop, IsTrue, refl, sym, ◌∙◌, ap, subst, arith, append_assoc, length-append, take-append-drop, ◌-◌}
 use Rattle.std.proofs.lemmas.Bool.{cases_eq}
-use Rattle.std.proofs.lemmas.List.{take_at, drop_at, drop_more, append-nil, length-drop}
+use Rattle.std.proofs.lemmas.List.{take_at, drop_at, drop_more, append-nil, length-drop, length-take-le, take-append-le}
 use Rattle.board_core.specs.Board.{BoardView, Left, LeftNow, IsSound, IsFileCall, LeavesOnly, SameSteps, Torn, Follows, Holds, Only, steps_of, tolds_of}
 use Rattle.pef_journal.specs.Image.{header, blocks, frame, IsPayload, AllPayloads, HasEntries, Stands}
 use Rattle.pef_journal.specs.Journal.{IsAtEnd, StandsForEither}
 use Rattle.pef_journal.specs.declared.journal.Journal.{Journal}
 use Rattle.pef_journal.proofs.Entries.{payloads_of, behind, blocks-append, some_octet}
 use Rattle.pef_journal.proofs.Moments.{started, goes_on}
+
+-- what the two writes make of the file
+pub written_whole : (file mid new fr : List ℕ) (place : ℕ) → place + 1 ≤ length file → Holds file (place + 1) fr mid → Holds mid place (165 ∷ []) new → Holds file place (165 ∷ fr) new
+written_whole file mid new fr place room first second =
+    let tail = drop (place + 1 + length fr) file in
+    let front : length (take (place + 1) file) ≡ place + 1 = length-take-le (place + 1) file room in
+    let mid_is : mid ≡ take (place + 1) file ++ (fr ++ tail) = first ∙ append_assoc (take (place + 1) file) fr tail in
+    let before : take place mid ≡ take place file =
+      ap (take place) mid_is ∙ take-append-le place (take (place + 1) file) (fr ++ tail) (omega (arith, front)) ∙ sym (take-append-le place (take (place + 1) file) (drop (place + 1) file) (omega (arith, front)))
+      ∙ ap (take place) (take-append-drop (place + 1) file) in
+    let behind_gate : drop (place + 1) mid ≡ fr ++ tail = ap (drop (place + 1)) mid_is ∙ drop_at (take (place + 1) file) (fr ++ tail) (place + 1) front in
+    let far : place + 1 + length fr ≡ place + length (165 ∷ fr) = omega arith in
+    second ∙ (λ i. (before i ++ 165 ∷ []) ++ behind_gate i) ∙ append_assoc (take place file) (165 ∷ []) (fr ++ tail) ∙ sym (append_assoc (take place file) (165 ∷ fr) tail)
+    ∙ ap (λ k. (take place file ++ 165 ∷ fr) ++ drop k file) far
 
 module _ (kind : ℕ) (Z : List ℕ) (E : List (List ℕ)) (v : BoardView) (journal : Journal) (at : IsAtEnd kind Z E v journal) where
   abbrev front : List ℕ
