@@ -1,5 +1,5 @@
 -- What a crash leaves while an entry is added.
-use Rattle.std.proofs.Common.{◌≡◌, ◌≢◌, ◌⊎◌, inl, inr, ⊎_elim, ℕ, ◌+◌, ◌*◌, ◌/◌, ◌%◌, ◌≤◌, max, List, [], ◌∷◌, ◌++◌, length, get_or, take, drop, IsTrue, refl, sym, ◌∙◌, ap, subst, arith, append_assoc, length-append, take-append-drop, ◌-◌}
+use Rattle.std.proofs.Common.{◌≡◌, ◌≢◌, inl, inr, ℕ, ◌+◌, ◌/◌, ◌%◌, ◌≤◌, max, List, [], ◌∷◌, ◌++◌, length, get_or, take, drop, IsTrue, refl, sym, ◌∙◌, ap, subst, arith, append_assoc, length-append, take-append-drop, ◌-◌}
 use Rattle.std.proofs.lemmas.Bool.{cases_eq}
 use Rattle.std.proofs.lemmas.List.{take_at, drop_at, drop_more, append-nil, length-drop, length-take-le, take-append-le}
 use Rattle.board_core.specs.Board.{BoardView, Left, LeftNow, IsSound, IsFileCall, LeavesOnly, SameSteps, Torn, Follows, Holds, Only, steps_of, tolds_of}
@@ -16,8 +16,8 @@ written_whole file mid new fr place room first second =
     let front : length (take (place + 1) file) ≡ place + 1 = length-take-le (place + 1) file room in
     let mid_is : mid ≡ take (place + 1) file ++ (fr ++ tail) = first ∙ append_assoc (take (place + 1) file) fr tail in
     let before : take place mid ≡ take place file =
-      ap (take place) mid_is ∙ take-append-le place (take (place + 1) file) (fr ++ tail) (omega (arith, front)) ∙ sym (take-append-le place (take (place + 1) file) (drop (place + 1) file) (omega (arith, front)))
-      ∙ ap (take place) (take-append-drop (place + 1) file) in
+    ap (take place) mid_is ∙ take-append-le place (take (place + 1) file) (fr ++ tail) (omega (arith, front)) ∙ sym (take-append-le place (take (place + 1) file) (drop (place + 1) file) (omega (arith, front)))
+    ∙ ap (take place) (take-append-drop (place + 1) file) in
     let behind_gate : drop (place + 1) mid ≡ fr ++ tail = ap (drop (place + 1)) mid_is ∙ drop_at (take (place + 1) file) (fr ++ tail) (place + 1) front in
     let far : place + 1 + length fr ≡ place + length (165 ∷ fr) = omega arith in
     second ∙ (λ i. (before i ++ 165 ∷ []) ++ behind_gate i) ∙ append_assoc (take place file) (165 ∷ []) (fr ++ tail) ∙ sym (append_assoc (take place file) (165 ∷ fr) tail)

@@ -1,6 +1,6 @@
 -- Entries behind one another.
-use Rattle.std.proofs.Common.{◌≡◌, ◌≢◌, ℕ, ◌+◌, ◌*◌, ◌/◌, ◌%◌, ◌≤◌, List, [], ◌∷◌, ◌++◌, length, refl, sym, ◌∙◌, ap, subst, arith, append_assoc}
-use Rattle.pef_journal.specs.Image.{blocks, IsPayload, AllPayloads, HasEntries}
+use Rattle.std.proofs.Common.{◌≡◌, ℕ, ◌/◌, ◌%◌, ◌≤◌, List, [], ◌∷◌, ◌++◌, length, refl, sym, ◌∙◌, ap, subst, arith, append_assoc}
+use Rattle.pef_journal.specs.Image.{blocks, AllPayloads, HasEntries}
 
 pub payloads_of : (entries : List (List ℕ)) (file : List ℕ) → HasEntries entries file → AllPayloads entries
 payloads_of [] file has = tt

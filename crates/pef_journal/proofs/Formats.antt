@@ -1,9 +1,9 @@
 -- What a crash leaves while a file is formatted.
-use Rattle.std.proofs.Common.{◌≡◌, ◌≢◌, ◌⊎◌, inl, inr, ⊎_elim, ℕ, ◌+◌, ◌*◌, ◌/◌, ◌%◌, ◌<◌, ◌≤◌, max, IsTrue, List, [], ◌∷◌, ◌++◌, length, get_or, take, drop, Option, Some, None, refl, sym, ◌∙◌, ap, subst, arith, append_assoc, length-append, take-append-drop}
+use Rattle.std.proofs.Common.{◌≡◌, ◌≢◌, inl, inr, ℕ, ◌+◌, ◌/◌, ◌%◌, ◌≤◌, IsTrue, List, [], ◌∷◌, ◌++◌, length, get_or, take, drop, refl, sym, ◌∙◌, ap, subst, arith, append_assoc, length-append}
 use Rattle.std.proofs.lemmas.Bool.{cases_eq}
-use Rattle.std.proofs.lemmas.List.{take_at, drop_at, drop_more, append-nil, drop-drop}
+use Rattle.std.proofs.lemmas.List.{drop_more, drop-drop}
 use Rattle.board_core.specs.Board.{BoardView, Left, LeftNow, IsSound, IsFileRun, IsFileCall, Reads, LeavesOnly, SameSteps, Torn, Follows, Holds, Only, steps_of, tolds_of}
-use Rattle.pef_journal.specs.Image.{header, HasSettingsLength, HasHeader, HasEntries, IsFormatted, Stands, IsEmptyOrUnformatted}
+use Rattle.pef_journal.specs.Image.{header, HasSettingsLength, IsFormatted, Stands, IsEmptyOrUnformatted}
 use Rattle.pef_journal.specs.Format.{body, MayBeMarked, IsUnmarked, LeavesUnformatted}
 use Rattle.pef_journal.proofs.Moments.{started, goes_on, leaves_map}
 

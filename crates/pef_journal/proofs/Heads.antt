@@ -1,7 +1,7 @@
 -- The head of a file, and what it says of it.
-use Rattle.std.proofs.Common.{◌≡◌, ◌≢◌, ℕ, ◌+◌, ◌*◌, ◌/◌, ◌%◌, ◌<◌, ◌≤◌, IsTrue, List, [], ◌∷◌, ◌++◌, length, take, drop, Option, Some, None, refl, sym, ◌∙◌, ap, subst, arith, append_assoc, length-append, take-append-drop}
+use Rattle.std.proofs.Common.{◌≡◌, ◌≢◌, ℕ, ◌+◌, ◌/◌, ◌%◌, ◌<◌, List, [], ◌∷◌, ◌++◌, length, take, drop, Option, Some, None, refl, sym, ◌∙◌, ap, subst, arith, length-append, take-append-drop}
 use Rattle.std.proofs.lemmas.List.{drop-drop, length-drop}
-use Rattle.board_core.specs.Board.{BoardView, Only}
+use Rattle.board_core.specs.Board.{BoardView}
 use Rattle.pef_journal.specs.Image.{header, settings_length, HasSettingsLength, HasHeader, IsForKind, Stands}
 use Rattle.pef_journal.specs.Journal.{HasRead, IsAt}
 use Rattle.pef_journal.specs.declared.journal.Journal.{Journal}

@@ -1,7 +1,7 @@
 -- What a crash leaves while calls follow one another.
-use Rattle.std.proofs.Common.{◌≡◌, ◌⊎◌, ◌↔◌, inl, inr, ⊎_elim, ℕ, ◌+◌, ◌≤◌, List, [], ◌∷◌, ◌++◌, length, IsTrue, refl, sym, ◌∙◌, ap, subst, arith}
+use Rattle.std.proofs.Common.{◌≡◌, ◌↔◌, inl, inr, ⊎_elim, ℕ, List, IsTrue, sym, ◌∙◌, ap, arith}
 use Rattle.pef_journal.specs.Journal.{LeavesAsRead}
-use Rattle.board_core.specs.Board.{BoardView, Left, LeftNow, IsSound, IsFileRun, IsFileCall, Reads, Syncs, LeavesOnly, SyncsFirst, NeverSynced, SameSteps, steps_of, tolds_of, Only}
+use Rattle.board_core.specs.Board.{BoardView, Left, LeftNow, IsSound, IsFileRun, IsFileCall, Reads, LeavesOnly, SyncsFirst, NeverSynced, steps_of, tolds_of, Only}
 
 -- before the first call
 pub started : (v : BoardView) (P : Left → Type 0) → IsSound v → IsTrue v.tells → ((left : Left) → LeftNow v left → P left) → LeavesOnly v v P

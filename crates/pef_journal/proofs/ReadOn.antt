@@ -1,10 +1,9 @@
 -- What is read at a gate, and what the file stands for.
-use Rattle.std.proofs.Common.{◌≡◌, ◌≢◌, ◌⊎◌, inl, inr, ⊎_elim, ℕ, ◌+◌, ◌-◌, ◌*◌, ◌/◌, ◌%◌, ◌<◌, ◌≤◌, Bool, true, false, IsTrue, List, [], ◌∷◌, ◌++◌, length, get_or, take, drop, refl, sym, ◌∙◌, ap, subst, arith, append_assoc, length-append, take-append-drop}
-use Rattle.std.specs.Prelude.{⊤}
+use Rattle.std.proofs.Common.{◌≡◌, ⊎_elim, ℕ, ◌+◌, ◌-◌, ◌/◌, ◌%◌, ◌≤◌, true, false, IsTrue, List, [], ◌∷◌, ◌++◌, length, get_or, take, drop, refl, sym, ◌∙◌, ap, subst, arith, append_assoc, length-append, take-append-drop}
 use Rattle.std.proofs.Math.Nat.{div-add-mod}
-use Rattle.std.proofs.lemmas.List.{take_at, drop_at, drop_more, drop-drop, length-drop, length-take-le, append-nil, get_or-append-add}
+use Rattle.std.proofs.lemmas.List.{drop_at, drop_more, length-drop, length-take-le, append-nil, get_or-append-add}
 use Rattle.board_core.specs.Board.{BoardView, Reads}
-use Rattle.pef_journal.specs.Image.{header, blocks, IsPayload, AllPayloads, HasHeader, HasEntries, IsForKind, Stands, StandsForNone, IsShutAt, IsOpenAt, IsCorruptAt, HasEntryAt, HasEntryWithin, length_at}
+use Rattle.pef_journal.specs.Image.{header, blocks, IsPayload, AllPayloads, HasEntries, IsForKind, Stands, StandsForNone, IsShutAt, IsCorruptAt, HasEntryAt, HasEntryWithin, length_at}
 use Rattle.pef_journal.specs.Gate.{LiesWithin}
 use Rattle.pef_journal.specs.Journal.{HasRead, IsAt, IsAtEnd, HasEnded, GivesEntry}
 use Rattle.pef_journal.specs.declared.journal.Journal.{Journal}

@@ -1,8 +1,8 @@
 -- An image stands for one history.
-use Rattle.std.proofs.Common.{◌≡◌, ◌≢◌, ℕ, ◌+◌, ◌*◌, ◌/◌, ◌%◌, List, [], ◌∷◌, ◌++◌, length, get_or, take, drop, map, refl, sym, ◌∙◌, ap, subst, arith, length-append}
+use Rattle.std.proofs.Common.{◌≡◌, ℕ, ◌/◌, ◌%◌, List, [], ◌∷◌, ◌++◌, length, get_or, take, drop, refl, sym, ◌∙◌, ap, subst, arith}
 use Rattle.std.proofs.Math.Nat.{div-add-mod}
 use Rattle.std.proofs.lemmas.List.{take_at, drop_at, append_cancel_left}
-use Rattle.pef_journal.specs.Image.{header, HasHeader, HasEntries, Stands}
+use Rattle.pef_journal.specs.Image.{header, HasEntries, Stands}
 
 -- what stands behind a gate says which entry it is
 pub block_same : (e f a b : List ℕ) → 165 ∷ (length e % 256) ∷ (length e / 256) ∷ (e ++ a) ≡ 165 ∷ (length f % 256) ∷ (length f / 256) ∷ (f ++ b) → (e ≡ f) × (a ≡ b)

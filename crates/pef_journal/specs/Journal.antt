@@ -1,7 +1,7 @@
 -- Where a journal stands in its file.
-use Rattle.std.specs.Prelude.{◌≡◌, ◌≢◌, ◌⊎◌, ◌↔◌, ℕ, ◌+◌, ◌*◌, ◌/◌, ◌%◌, ◌<◌, ◌≤◌, Bool, true, false, IsTrue, List, [], ◌∷◌, ◌++◌, length, Result, Ok, Err, ⊤}
+use Rattle.std.specs.Prelude.{◌≡◌, ◌⊎◌, ℕ, ◌+◌, ◌≤◌, Bool, true, false, IsTrue, List, [], ◌∷◌, ◌++◌, length, Result, Ok, Err, ⊤}
 use Rattle.board_core.specs.Board.{BoardView, Left, Only, SameSteps}
-use Rattle.pef_journal.specs.Image.{header, blocks, HasHeader, HasEntries, IsPayload, AllPayloads, Stands, IsShutAt, IsCorruptAt, HasEntryAt}
+use Rattle.pef_journal.specs.Image.{header, blocks, HasHeader, HasEntries, AllPayloads, Stands, IsShutAt, IsCorruptAt, HasEntryAt}
 use Rattle.pef_journal.specs.declared.fault.JournalFault.{JournalFault}
 use Rattle.pef_journal.specs.declared.fault.JournalFault.TheVariants.{NotFormatted, Corrupt, DiskFault, Full}
 use Rattle.pef_journal.specs.declared.journal.Journal.{Journal}

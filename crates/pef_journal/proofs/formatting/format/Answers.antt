@@ -1,5 +1,5 @@
-use Rattle.std.proofs.Common.{◌≡◌, ℕ, ◌+◌, List, length, IsTrue, refl, sym, ◌∙◌, ap, subst, Result, Ok, Err, OnOk}
-use Rattle.board_core.specs.Board.{Torn, Follows, Holds, Only}
+use Rattle.std.proofs.Common.{◌≡◌, ℕ, List, length, ◌∙◌, subst, Result, Ok, Err, OnOk}
+use Rattle.board_core.specs.Board.{Torn, Follows, Holds}
 use Rattle.pef_journal.specs.Format.{body}
 use Rattle.pef_journal.proofs.Formats.{after_mark, after_mark_sync, formatted, stands_empty}
 use Rattle.pef_journal.proofs.formatting.format.Goals as goal

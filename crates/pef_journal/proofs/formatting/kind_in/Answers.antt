@@ -1,4 +1,4 @@
-use Rattle.std.proofs.Common.{◌≡◌, ℕ, ◌+◌, ◌<◌, Some, refl, sym, ◌∙◌, ap, arith, rules, List, take, drop, length}
+use Rattle.std.proofs.Common.{◌≡◌, ◌+◌, ◌<◌, Some, sym, ◌∙◌, ap, arith, rules, take, drop, length}
 use Rattle.std.proofs.lemmas.List.{length-take-le, length-drop}
 use Rattle.pef_journal.proofs.Heads.{head, has_header}
 use Rattle.pef_journal.proofs.formatting.kind_in.Goals as goal

@@ -1,4 +1,4 @@
-use Rattle.std.proofs.Common.{rules, ◌≡◌, ◌+◌, ◌<◌, ◌≤◌, length, ℕ, ◌∙◌, ap, sym, arith, drop, ◌∷◌, [], List}
+use Rattle.std.proofs.Common.{rules, ◌≡◌, ◌+◌, ◌<◌, length, ◌∙◌, arith, drop, ◌∷◌, []}
 use Rattle.pef_journal.proofs.Gates.{open_gate}
 use Rattle.pef_journal.proofs.gate.read_gate.Goals as goal
 

@@ -1,5 +1,5 @@
-use Rattle.std.proofs.Common.{◌≡◌, ◌⊎◌, inl, inr, ℕ, ◌+◌, IsTrue, refl, ◌∙◌, ap, Result, Ok, Err, OnOk}
-use Rattle.board_core.specs.Board.{BoardView, IsSound, Reads, SyncsFirst, Syncs, Only, IsFileCall}
+use Rattle.std.proofs.Common.{◌≡◌, inl, inr, IsTrue, Result, Ok, Err, OnOk}
+use Rattle.board_core.specs.Board.{BoardView, IsSound, Reads, SyncsFirst, Only, IsFileCall}
 use Rattle.pef_journal.specs.Journal.{LeavesAsRead}
 use Rattle.pef_journal.proofs.Moments.{never_synced, first_sync, syncs_reads}
 use Rattle.pef_journal.proofs.syncing.synced_length.Goals as goal

@@ -1,5 +1,5 @@
-use Rattle.std.proofs.Common.{◌≡◌, ℕ, ◌+◌, ◌≤◌, max, List, [], ◌∷◌, ◌++◌, length, IsTrue, refl, sym, ◌∙◌, ap, subst, arith}
-use Rattle.board_core.specs.Board.{Torn, Follows, Holds, Only}
+use Rattle.std.proofs.Common.{◌≡◌, ℕ, ◌+◌, max, List, [], ◌∷◌, length, sym, ◌∙◌, ap, subst, arith}
+use Rattle.board_core.specs.Board.{Torn, Follows, Holds}
 use Rattle.pef_journal.specs.Image.{frame, IsPayload}
 use Rattle.pef_journal.proofs.Append.{written_whole, at_start, after_first, after_sync, after_second, after_last, at_new_end}
 use Rattle.pef_journal.proofs.journal.Journal.append.Goals as goal

@@ -1,11 +1,9 @@
-use Rattle.std.proofs.Common.{◌≡◌, ◌⊎◌, inl, inr, ℕ, ◌+◌, ◌<◌, Some, IsTrue, refl, sym, ◌∙◌, ap, subst, arith, rules, List, [], take, drop, length}
+use Rattle.std.proofs.Common.{◌≡◌, inr, ◌+◌, ◌<◌, Some, IsTrue, sym, ◌∙◌, ap, arith, rules, take, drop, length}
 use Rattle.std.proofs.lemmas.List.{append-nil}
-use Rattle.board_core.specs.Board.{Only}
 use Rattle.pef_journal.specs.Image.{HasHeader}
-use Rattle.pef_journal.specs.Journal.{LeavesAsRead, HasRead}
-use Rattle.pef_journal.specs.declared.journal.Journal.{Journal}
+use Rattle.pef_journal.specs.Journal.{LeavesAsRead}
 use Rattle.pef_journal.proofs.Moments.{syncs_reads}
-use Rattle.pef_journal.proofs.Heads.{head, head_of_kind, long_for_kind, has_header, opens_at}
+use Rattle.pef_journal.proofs.Heads.{head, has_header, opens_at}
 use Rattle.pef_journal.proofs.journal.Journal.open.Given
 use Rattle.pef_journal.proofs.journal.Journal.open.Goals as goal
 
