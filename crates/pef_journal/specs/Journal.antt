@@ -14,8 +14,8 @@ abbrev pub HasRoom : Journal → ℕ → Type 0
 HasRoom journal n = journal.place + 4 + n ≤ 16777216
 
 -- the journal knows the length of the board's file, where that is told
-abbrev pub Fits : BoardView → Journal → Type 0
-Fits v journal = IsTrue v.tells → journal.file_length ≡ length v.octets
+abbrev pub KnowsLength : BoardView → Journal → Type 0
+KnowsLength v journal = IsTrue v.tells → journal.file_length ≡ length v.octets
 
 -- a crash leaves the file as a read gave it then, and no further step
 abbrev pub LeavesAsRead : BoardView → Left → Type 0
