@@ -1,76 +1,46 @@
 -- One more call is kept.
-use Rattle.std.proofs.Common.{◌≡◌, ◌⊎◌, inl, inr, ⊎_elim, ℕ, ◌+◌, ◌<◌, ◌≤◌, List, [], ◌∷◌, ◌++◌, length, take, drop, refl, sym, ◌∙◌, ap, subst, arith, length-append}
-use Rattle.std.proofs.lemmas.List.{append-nil, take-append-drop, take_all, drop_all, take-append-le, drop-append-le}
-use Rattle.std.proofs.lemmas.Bool.{cases_lt}
-use Rattle.board_core.specs.Board.{Left}
+use Rattle.std.proofs.Common.{◌≡◌, ℕ, ◌+◌, ◌<◌, Bool, true, false, ◌&&◌, List, [], ◌∷◌, ◌++◌, length, take, drop, get_or, refl, sym, ◌∙◌, ap, subst}
+use Rattle.std.proofs.lemmas.List.{take_more, drop_more, take-append-drop}
 use Rattle.board_core.specs.declared.call.Call.{Call}
-use Rattle.board_core.specs.declared.call.Call.TheVariants.{Wrote, Synced, Issued}
-use Rattle.board_core.specs.Shadow.{Shadow, shadow_of, fresh_shadow, after, after_all, LeftAt, LeftWithin, LeftSince}
+use Rattle.board_core.specs.Moments.{State, fresh_state, state_after, after, after_all, is_placed, are_placed}
 
-after_all-push : (s : Shadow) (calls : List Call) (call : Call) → after_all s (calls ++ call ∷ []) ≡ after (after_all s calls) call
+after_all-push : (s : State) (calls : List Call) (call : Call) → after_all s (calls ++ call ∷ []) ≡ after (after_all s calls) call.effect
 after_all-push s [] call = refl
-after_all-push s (c ∷ calls) call = after_all-push (after s c) calls call
+after_all-push s (c ∷ calls) call = after_all-push (after s c.effect) calls call
 
-pub shadow_of-push : (content : List ℕ) (calls : List Call) (call : Call) → shadow_of content (calls ++ call ∷ []) ≡ after (shadow_of content calls) call
-shadow_of-push content calls call = after_all-push (fresh_shadow content) calls call
+and_true : (a b : Bool) → (a && b) ≡ true → (a ≡ true) × (b ≡ true)
+and_true true b both = (refl, both)
+and_true false b both = cc
 
-within_push : (s : Shadow) (calls : List Call) (call : Call) (left : Left) → LeftWithin s (calls ++ call ∷ []) left → LeftWithin s calls left ⊎ ((calls ≡ []) × LeftWithin s (call ∷ []) left)
-within_push s [] call left within = inr (refl, within)
-within_push s (Wrote place octets ∷ calls) call left within = inl within
-within_push s (Synced ∷ calls) call left within = inl within
-within_push s (Issued sent ∷ calls) call left within = inl within
+placed_push : (s : State) (calls : List Call) (call : Call) → are_placed s calls ≡ true → is_placed (length (after_all s calls).octets) call.effect ≡ true → are_placed s (calls ++ call ∷ []) ≡ true
+placed_push s [] call all here = ap (λ b. b && true) here
+placed_push s (c ∷ calls) call all here =
+    let parts = and_true (is_placed (length s.octets) c.effect) (are_placed (after s c.effect) calls) all in
+    ap (λ b. b && are_placed (after s c.effect) (calls ++ call ∷ [])) parts.0 ∙ placed_push (after s c.effect) calls call parts.1 here
 
-push_within : (s : Shadow) (calls : List Call) (call : Call) (left : Left) → LeftWithin s calls left → LeftWithin s (calls ++ call ∷ []) left
-push_within s [] call left within = absurd within
-push_within s (Wrote place octets ∷ calls) call left within = within
-push_within s (Synced ∷ calls) call left within = within
-push_within s (Issued sent ∷ calls) call left within = within
+-- calls that are these and one more
+module _ (content : List ℕ) (earlier : ℕ) (calls more : List Call) (call : Call) (pushed : more ≡ calls ++ call ∷ []) where
+  pub state-push : state_after content earlier more ≡ after (state_after content earlier calls) call.effect
+  state-push = ap (state_after content earlier) pushed ∙ after_all-push (fresh_state content earlier) calls call
 
-module _ (content : List ℕ) (calls : List Call) (call : Call) where
-  -- a crash since then left what it might have left before, or falls into the new call, or behind it
-  pub since_push : (t : ℕ) (left : Left) → t ≤ length calls → LeftSince content (calls ++ call ∷ []) t left
-      → LeftSince content calls t left ⊎ (LeftWithin (shadow_of content calls) (call ∷ []) left ⊎ LeftAt (shadow_of content (calls ++ call ∷ [])) left)
-  since_push t left le since = ⊎_elim behind within (cases_lt (length calls) since.moment)
-    where
-      more : List Call
-      more = calls ++ call ∷ []
+  pub still_placed : are_placed (fresh_state content earlier) calls ≡ true → is_placed (length (state_after content earlier calls).octets) call.effect ≡ true → are_placed (fresh_state content earlier) more ≡ true
+  still_placed all here = ap (are_placed (fresh_state content earlier)) pushed ∙ placed_push (fresh_state content earlier) calls call all here
 
-      size : length more ≡ length calls + 1
-      size = length-append calls (call ∷ [])
+-- each call of such a list begins within the file that it finds
+placed_in : (s : State) (front : List Call) (call : Call) (back : List Call) → are_placed s (front ++ call ∷ back) ≡ true → is_placed (length (after_all s front).octets) call.effect ≡ true
+placed_in s [] call back all = (and_true (is_placed (length s.octets) call.effect) (are_placed (after s call.effect) back) all).0
+placed_in s (c ∷ front) call back all = placed_in (after s c.effect) front call back (and_true (is_placed (length s.octets) c.effect) (are_placed (after s c.effect) (front ++ call ∷ back)) all).1
 
-      behind : length calls < since.moment → LeftSince content calls t left ⊎ (LeftWithin (shadow_of content calls) (call ∷ []) left ⊎ LeftAt (shadow_of content more) left)
-      behind past =
-          let whole : take since.moment more ≡ more = take_all since.moment more (omega (arith, size, past)) in
-          let none : drop since.moment more ≡ [] = drop_all since.moment more (omega (arith, size, past)) in
-          ⊎_elim (λ at. inr (inr (subst (λ l. LeftAt (shadow_of content l) left) whole at)))
-          (λ in_call. absurd (subst (λ l. LeftWithin (shadow_of content (take since.moment more)) l left) none in_call)) since.left_then
+-- the calls up to a place, and the one there
+module _ (content : List ℕ) (earlier : ℕ) (calls : List Call) (index : ℕ) (call : Call) (here : index < length calls) (is : call ≡ get_or calls index call) where
+  pub up_to : take (index + 1) calls ≡ take index calls ++ call ∷ []
+  up_to = take_more calls index call here ∙ ap (λ c. take index calls ++ c ∷ []) (sym is)
 
-      within : since.moment ≤ length calls → LeftSince content calls t left ⊎ (LeftWithin (shadow_of content calls) (call ∷ []) left ⊎ LeftAt (shadow_of content more) left)
-      within until =
-          let front : take since.moment more ≡ take since.moment calls = take-append-le since.moment calls (call ∷ []) until in
-          let back : drop since.moment more ≡ drop since.moment calls ++ call ∷ [] = drop-append-le since.moment calls (call ∷ []) until in
-          ⊎_elim
-          (λ at. inl (record { moment = since.moment; since = since.since; until = until; left_then = inl (subst (λ l. LeftAt (shadow_of content l) left) front at) }))
-          (λ in_call.
-          let s = shadow_of content (take since.moment calls) in
-          let here = subst (λ l. LeftWithin s l left) back (subst (λ l. LeftWithin (shadow_of content l) (drop since.moment more) left) front in_call) in
-          ⊎_elim
-          (λ old. inl (record { moment = since.moment; since = since.since; until = until; left_then = inr old }))
-          (λ new.
-          let whole : take since.moment calls ≡ calls = (sym (append-nil (take since.moment calls)) ∙ ap (λ l. take since.moment calls ++ l) (sym new.0) ∙ take-append-drop since.moment calls) in
-          inr (inl (subst (λ l. LeftWithin (shadow_of content l) (call ∷ []) left) whole new.1)))
-          (within_push s (drop since.moment calls) call left here)) since.left_then
+  parted : calls ≡ take index calls ++ call ∷ drop (index + 1) calls
+  parted = sym (take-append-drop index calls) ∙ ap (λ l. take index calls ++ l) (drop_more calls index call here ∙ ap (λ c. c ∷ drop (index + 1) calls) (sym is))
 
-  pub push_since : (t : ℕ) (left : Left) → t ≤ length calls → LeftSince content calls t left → LeftSince content (calls ++ call ∷ []) t left
-  push_since t left le since =
-      let front : take since.moment (calls ++ call ∷ []) ≡ take since.moment calls = take-append-le since.moment calls (call ∷ []) since.until in
-      let back : drop since.moment (calls ++ call ∷ []) ≡ drop since.moment calls ++ call ∷ [] = drop-append-le since.moment calls (call ∷ []) since.until in
-      record {
-        moment = since.moment;
-        since = since.since;
-        until = omega (arith, since.until, length-append calls (call ∷ []));
-        left_then = ⊎_elim
-            (λ at. inl (subst (λ l. LeftAt (shadow_of content l) left) (sym front) at))
-            (λ in_call. inr (subst (λ l. LeftWithin (shadow_of content l) (drop since.moment (calls ++ call ∷ [])) left) (sym front)
-            (subst (λ l. LeftWithin (shadow_of content (take since.moment calls)) l left) (sym back) (push_within (shadow_of content (take since.moment calls)) (drop since.moment calls) call left in_call)))) since.left_then;
-      }
+  pub state_next : state_after content earlier (take (index + 1) calls) ≡ after (state_after content earlier (take index calls)) call.effect
+  state_next = state-push content earlier (take index calls) (take (index + 1) calls) call up_to
+
+  pub placed_here : are_placed (fresh_state content earlier) calls ≡ true → is_placed (length (state_after content earlier (take index calls)).octets) call.effect ≡ true
+  placed_here all = placed_in (fresh_state content earlier) (take index calls) call (drop (index + 1) calls) (subst (λ l. are_placed (fresh_state content earlier) l ≡ true) parted all)

@@ -4,13 +4,23 @@
 mod board;
 mod bytes;
 mod call;
-mod memory;
+mod crash;
+mod failures;
+mod file;
+mod leaving;
+mod memory_board;
+mod memory_sink;
+mod memory_source;
+mod sink;
 mod source;
 mod step;
+mod trace;
 
 pub use board::{Board, DiskFailed};
 pub use bytes::Bytes;
-pub use call::Call;
-pub use memory::MemBoard;
-pub use source::{Sink, SinkFailed, Source, SourceFailed};
+pub use memory_board::MemBoard;
+pub use memory_sink::MemSink;
+pub use memory_source::MemSource;
+pub use sink::{Sink, SinkFailed};
+pub use source::{Source, SourceFailed};
 pub use step::{Act, Address, Community, Octets, Payload, Sent, Step, Text, Told};

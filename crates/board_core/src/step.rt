@@ -63,3 +63,17 @@ impl Step {
         }
     }
 }
+
+impl Sent {
+    ghost use Rattle.std.specs.Prelude.{◌≡◌};
+
+    /// The same step, told the same.
+    pub fn copy(&self) -> Sent
+        ensures { result ≡ self.now }
+    {
+        Sent {
+            step: self.step.copy(),
+            told: self.told,
+        }
+    }
+}

@@ -1,0 +1,33 @@
+// What is written.
+ghost use Rattle.std.specs.Prelude.{ℕ, List, Option};
+ghost use Rattle.board_core.specs.Causes.{HasCause};
+ghost use Rattle.board_core.specs.Source.{Appends};
+
+use std::error::Error;
+use std::fmt;
+
+/// The sink didn't take all of what was written.
+#[derive(Clone, Copy, Debug, PartialEq, Eq)]
+pub struct SinkFailed;
+
+impl fmt::Display for SinkFailed {
+    fn fmt<W: fmt::Write>(&self, f: &mut fmt::Formatter<W>) -> fmt::Result {
+        f.write_str("the sink could not be written")
+    }
+}
+
+impl Error for SinkFailed {}
+
+/// What is written, from its beginning on.
+pub trait Sink {
+    /// What was written, where the sink tells it.
+    ghost written: { Self → Option (List ℕ) };
+
+    /// How often a write failed, a count that never falls.
+    ghost faults: { Self → ℕ };
+
+    /// Appends all of `from`. After a failure a prefix of it was appended.
+    fn write(&mut self, from: &[u8]) -> Result<(), SinkFailed>
+        ensures appended { Appends from.now (written self.old) (written self.new) result }
+        ensures cause { HasCause (faults self.old) (faults self.new) result };
+}
