@@ -1,13 +1,27 @@
 -- What a crash leaves while an entry is added.
-use Rattle.std.proofs.Common.{◌≡◌, ◌≢◌, ◌⊎◌, inl, inr, ⊎_elim, ℕ, ◌+◌, ◌*◌, ◌/◌, ◌%◌, ◌≤◌, max, List, [], ◌∷◌, ◌++◌, length, get_or, take, drop, IsTrue, refl, sym, ◌∙◌, ap, subst, arith, append_assoc, length-append, take-append-drop, ◌-◌}
+use Rattle.std.proofs.Common.{◌≡◌, ◌≢◌, inl, inr, ℕ, ◌+◌, ◌/◌, ◌%◌, ◌≤◌, max, List, [], ◌∷◌, ◌++◌, length, get_or, take, drop, IsTrue, refl, sym, ◌∙◌, ap, subst, arith, append_assoc, length-append, take-append-drop, ◌-◌}
 use Rattle.std.proofs.lemmas.Bool.{cases_eq}
-use Rattle.std.proofs.lemmas.List.{take_at, drop_at, drop_more, append-nil, length-drop}
+use Rattle.std.proofs.lemmas.List.{take_at, drop_at, drop_more, append-nil, length-drop, length-take-le, take-append-le}
 use Rattle.board_core.specs.Board.{BoardView, Left, LeftNow, IsSound, IsFileCall, LeavesOnly, SameSteps, Torn, Follows, Holds, Only, steps_of, tolds_of}
 use Rattle.pef_journal.specs.Image.{header, blocks, frame, IsPayload, AllPayloads, HasEntries, Stands}
 use Rattle.pef_journal.specs.Journal.{IsAtEnd, StandsForEither}
 use Rattle.pef_journal.specs.declared.journal.Journal.{Journal}
 use Rattle.pef_journal.proofs.Entries.{payloads_of, behind, blocks-append, some_octet}
 use Rattle.pef_journal.proofs.Moments.{started, goes_on}
+
+-- what the two writes make of the file
+pub written_whole : (file mid new fr : List ℕ) (place : ℕ) → place + 1 ≤ length file → Holds file (place + 1) fr mid → Holds mid place (165 ∷ []) new → Holds file place (165 ∷ fr) new
+written_whole file mid new fr place room first second =
+    let tail = drop (place + 1 + length fr) file in
+    let front : length (take (place + 1) file) ≡ place + 1 = length-take-le (place + 1) file room in
+    let mid_is : mid ≡ take (place + 1) file ++ (fr ++ tail) = first ∙ append_assoc (take (place + 1) file) fr tail in
+    let before : take place mid ≡ take place file =
+    ap (take place) mid_is ∙ take-append-le place (take (place + 1) file) (fr ++ tail) (omega (arith, front)) ∙ sym (take-append-le place (take (place + 1) file) (drop (place + 1) file) (omega (arith, front)))
+    ∙ ap (take place) (take-append-drop (place + 1) file) in
+    let behind_gate : drop (place + 1) mid ≡ fr ++ tail = ap (drop (place + 1)) mid_is ∙ drop_at (take (place + 1) file) (fr ++ tail) (place + 1) front in
+    let far : place + 1 + length fr ≡ place + length (165 ∷ fr) = omega arith in
+    second ∙ (λ i. (before i ++ 165 ∷ []) ++ behind_gate i) ∙ append_assoc (take place file) (165 ∷ []) (fr ++ tail) ∙ sym (append_assoc (take place file) (165 ∷ fr) tail)
+    ∙ ap (λ k. (take place file ++ 165 ∷ fr) ++ drop k file) far
 
 module _ (kind : ℕ) (Z : List ℕ) (E : List (List ℕ)) (v : BoardView) (journal : Journal) (at : IsAtEnd kind Z E v journal) where
   abbrev front : List ℕ
@@ -24,10 +38,10 @@ module _ (kind : ℕ) (Z : List ℕ) (E : List (List ℕ)) (v : BoardView) (jour
 
   stands_behind : (more : List (List ℕ)) (tail : List ℕ) → HasEntries more tail → Stands kind Z (E ++ more) (front ++ tail)
   stands_behind more tail has = (
-      blocks E ++ tail,
-      (at.at.file.0, append_assoc (header kind Z) (blocks E) tail, λ none. let size : length (blocks E ++ tail) ≡ 0 = ap length none in absurd (omega (arith, size, length-append (blocks E) tail, some_octet more tail has))),
-      behind E more tail all_E has,
-    )
+    blocks E ++ tail,
+    (at.at.file.0, append_assoc (header kind Z) (blocks E) tail, λ none. let size : length (blocks E ++ tail) ≡ 0 = ap length none in absurd (omega (arith, size, length-append (blocks E) tail, some_octet more tail has))),
+    behind E more tail all_E has,
+  )
 
   -- a closed gate behind them
   stands_shut : (gate : ℕ) (tail : List ℕ) → gate ≢ 165 → Stands kind Z E (front ++ gate ∷ tail)
@@ -61,7 +75,7 @@ module _ (kind : ℕ) (Z : List ℕ) (E : List (List ℕ)) (v : BoardView) (jour
     torn_behind n c torn =
         let tail = drop (journal.place + 1) c in
         let whole : c ≡ front ++ at.at.left.0 ∷ tail =
-          sym (take-append-drop (journal.place + 1) c) ∙ ap (λ l. l ++ tail) (torn.before ∙ front_gate) ∙ append_assoc front (at.at.left.0 ∷ []) tail in
+        sym (take-append-drop (journal.place + 1) c) ∙ ap (λ l. l ++ tail) (torn.before ∙ front_gate) ∙ append_assoc front (at.at.left.0 ∷ []) tail in
         subst (Stands kind Z E) (sym whole) (stands_shut at.at.left.0 tail at.at.left.3)
 
     abbrev old_tail : List ℕ
@@ -90,7 +104,7 @@ module _ (kind : ℕ) (Z : List ℕ) (E : List (List ℕ)) (v : BoardView) (jour
         let long : length (staged gate tail) ≡ length front + (1 + (2 + length (p ++ 0 ∷ tail))) = omega (arith, length-append front (gate ∷ (length p % 256) ∷ (length p / 256) ∷ (p ++ 0 ∷ tail))) in
         let rest : drop journal.place c ≡ g ∷ drop (journal.place + 1) c = drop_more c journal.place 0 (omega (arith, torn.no_shorter, long, place_is)) in
         let whole : c ≡ staged g tail =
-          sym (take-append-drop journal.place c) ∙ ap (λ l. l ++ drop journal.place c) (torn.before ∙ front_is gate tail) ∙ ap (λ l. front ++ l) (rest ∙ ap (λ l. g ∷ l) (torn.after ∙ back_is gate tail)) in
+        sym (take-append-drop journal.place c) ∙ ap (λ l. l ++ drop journal.place c) (torn.before ∙ front_is gate tail) ∙ ap (λ l. front ++ l) (rest ∙ ap (λ l. g ∷ l) (torn.after ∙ back_is gate tail)) in
         subst (StandsForEither kind Z E p) (sym whole) (either_gate g tail)
 
     written_gate : (gate : ℕ) (tail c : List ℕ) → Holds (staged gate tail) journal.place (165 ∷ []) c → c ≡ staged 165 tail
@@ -105,8 +119,10 @@ module _ (kind : ℕ) (Z : List ℕ) (E : List (List ℕ)) (v : BoardView) (jour
     steps_same w left sent now = record { issued = now.issued ∙ ap steps_of sent; told = now.told ∙ ap tolds_of sent }
 
     pub at_start : IsSound v → IsTrue v.tells → LeavesOnly v v Leaves
-    at_start sound tells = started v Leaves sound tells (λ left now. (steps_same v left refl now,
-      inl (subst (Stands kind Z E) (sym (at.at.lasting left.image now.image)) (subst (λ l. Stands kind Z l v.octets) (append-nil E) at.at.stands))))
+    at_start sound tells = started v Leaves sound tells (λ left now. (
+      steps_same v left refl now,
+      inl (subst (Stands kind Z E) (sym (at.at.lasting left.image now.image)) (subst (λ l. Stands kind Z l v.octets) (append-nil E) at.at.stands)),
+    ))
 
     module _ (w : BoardView) (so_far : LeavesOnly v v Leaves) (call : IsFileCall v w) (tells : IsTrue w.tells) (images : Follows (Torn (journal.place + 1) (length (frame p))) v.images w.images) where
       first : (c : List ℕ) → w.images c → Stands kind Z E c
@@ -125,7 +141,7 @@ module _ (kind : ℕ) (Z : List ℕ) (E : List (List ℕ)) (v : BoardView) (jour
         after_sync = goes_on v w x Leaves after_first call_x tells_x (λ left now. (steps_same x left sent_x now, inl (first left.image (fewer left.image now.image))))
 
         module _ (y : BoardView) (call_y : IsFileCall x y) (tells_y : IsTrue y.tells) (holds : Holds v.octets (journal.place + 1) (frame p) w.octets) (octets_x : x.octets ≡ w.octets) (only_x : Only x.octets x.images)
-          (images_y : Follows (Torn journal.place 1) x.images y.images) where
+            (images_y : Follows (Torn journal.place 1) x.images y.images) where
           staged_x : x.octets ≡ staged at.at.left.0 old_tail
           staged_x = octets_x ∙ written_behind w.octets holds
 
@@ -160,20 +176,26 @@ module _ (kind : ℕ) (Z : List ℕ) (E : List (List ℕ)) (v : BoardView) (jour
             where
               is : z.octets ≡ staged 165 old_tail
               is = octets_z ∙ written_gate at.at.left.0 old_tail y.octets (subst (λ f. Holds f journal.place (165 ∷ []) y.octets) staged_x holds_y)
+
               blocks_p : blocks (E ++ p ∷ []) ≡ blocks E ++ 165 ∷ (length p % 256) ∷ (length p / 256) ∷ (p ++ [])
               blocks_p = blocks-append E (p ∷ [])
+
               whole : z.octets ≡ header kind Z ++ (blocks (E ++ p ∷ []) ++ 0 ∷ old_tail)
               whole =
                   is ∙ append_assoc (header kind Z) (blocks E) (165 ∷ (length p % 256) ∷ (length p / 256) ∷ (p ++ 0 ∷ old_tail))
                   ∙ ap (λ l. header kind Z ++ l) (ap (λ l. blocks E ++ 165 ∷ (length p % 256) ∷ (length p / 256) ∷ (l ++ 0 ∷ old_tail)) (sym (append-nil p))
-                    ∙ ap (λ l. blocks E ++ 165 ∷ (length p % 256) ∷ (length p / 256) ∷ l) (refl)
-                    ∙ sym (append_assoc (blocks E) (165 ∷ (length p % 256) ∷ (length p / 256) ∷ (p ++ [])) (0 ∷ old_tail))
-                    ∙ ap (λ l. l ++ 0 ∷ old_tail) (sym blocks_p))
+                  ∙ ap (λ l. blocks E ++ 165 ∷ (length p % 256) ∷ (length p / 256) ∷ l) (refl)
+                  ∙ sym (append_assoc (blocks E) (165 ∷ (length p % 256) ∷ (length p / 256) ∷ (p ++ [])) (0 ∷ old_tail))
+                  ∙ ap (λ l. l ++ 0 ∷ old_tail) (sym blocks_p))
+
               place_new : new.place ≡ length (header kind Z ++ blocks (E ++ p ∷ []))
               place_new = omega (arith, place, place_is, length-append (header kind Z) (blocks (E ++ p ∷ [])), ap length blocks_p, length-append (header kind Z) (blocks E), length-append (blocks E) (165 ∷ (length p % 256) ∷ (length p / 256) ∷ (p ++ [])), length-append p [])
+
               size_old : journal.file_length ≡ length front + (1 + length at.at.left.1)
               size_old = omega (arith, at.at.file_length, ap length file_is, length-append front (at.at.left.0 ∷ at.at.left.1))
+
               tail_size : length old_tail ≡ length v.octets - (journal.place + 1 + length (frame p))
               tail_size = length-drop (journal.place + 1 + length (frame p)) v.octets
+
               size_new : new.file_length ≡ length z.octets
               size_new = omega (arith, size, size_old, at.at.file_length, place_is, tail_size, length-append p (0 ∷ []), ap length is, length-append front (165 ∷ (length p % 256) ∷ (length p / 256) ∷ (p ++ 0 ∷ old_tail)), length-append p (0 ∷ old_tail))

@@ -1,6 +1,6 @@
 -- Entries behind one another.
-use Rattle.std.proofs.Common.{◌≡◌, ◌≢◌, ℕ, ◌+◌, ◌*◌, ◌/◌, ◌%◌, ◌≤◌, List, [], ◌∷◌, ◌++◌, length, refl, sym, ◌∙◌, ap, subst, arith, append_assoc}
-use Rattle.pef_journal.specs.Image.{blocks, IsPayload, AllPayloads, HasEntries}
+use Rattle.std.proofs.Common.{◌≡◌, ℕ, ◌/◌, ◌%◌, ◌≤◌, List, [], ◌∷◌, ◌++◌, length, refl, sym, ◌∙◌, ap, subst, arith, append_assoc}
+use Rattle.pef_journal.specs.Image.{blocks, AllPayloads, HasEntries}
 
 pub payloads_of : (entries : List (List ℕ)) (file : List ℕ) → HasEntries entries file → AllPayloads entries
 payloads_of [] file has = tt
@@ -19,4 +19,3 @@ blocks-append (e ∷ es) fs = ap (λ l. 165 ∷ (length e % 256) ∷ (length e /
 pub some_octet : (more : List (List ℕ)) (tail : List ℕ) → HasEntries more tail → 1 ≤ length tail
 some_octet [] tail has = subst (λ l. 1 ≤ length l) (sym has.2) (omega arith)
 some_octet (e ∷ more) tail has = subst (λ l. 1 ≤ length l) (sym has.2) (omega arith)
-

@@ -1,7 +1,7 @@
 -- The head of a file, and what it says of it.
-use Rattle.std.proofs.Common.{◌≡◌, ◌≢◌, ℕ, ◌+◌, ◌*◌, ◌/◌, ◌%◌, ◌<◌, ◌≤◌, IsTrue, List, [], ◌∷◌, ◌++◌, length, take, drop, Option, Some, None, refl, sym, ◌∙◌, ap, subst, arith, append_assoc, length-append, take-append-drop}
+use Rattle.std.proofs.Common.{◌≡◌, ◌≢◌, ℕ, ◌+◌, ◌/◌, ◌%◌, ◌<◌, List, [], ◌∷◌, ◌++◌, length, take, drop, Option, Some, None, refl, sym, ◌∙◌, ap, subst, arith, length-append, take-append-drop}
 use Rattle.std.proofs.lemmas.List.{drop-drop, length-drop}
-use Rattle.board_core.specs.Board.{BoardView, Only}
+use Rattle.board_core.specs.Board.{BoardView}
 use Rattle.pef_journal.specs.Image.{header, settings_length, HasSettingsLength, HasHeader, IsForKind, Stands}
 use Rattle.pef_journal.specs.Journal.{HasRead, IsAt}
 use Rattle.pef_journal.specs.declared.journal.Journal.{Journal}
@@ -36,7 +36,7 @@ pub has_header : (kind : ℕ) (Z file : List ℕ) → HasSettingsLength kind Z �
 has_header kind Z file is heads settings long = (
   is,
   sym (take-append-drop 4 file) ∙ (λ i. heads i ++ drop 4 file)
-    ∙ ap (λ l. head kind (length Z) ++ l) (sym (take-append-drop (length Z) (drop 4 file)) ∙ (λ i. sym settings i ++ drop-drop (length Z) 4 file i)),
+      ∙ ap (λ l. head kind (length Z) ++ l) (sym (take-append-drop (length Z) (drop 4 file)) ∙ (λ i. sym settings i ++ drop-drop (length Z) 4 file i)),
   λ none. absurd (omega (arith, long, length-drop (4 + length Z) file, ap length none)),
 )
 

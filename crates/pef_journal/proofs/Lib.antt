@@ -5,3 +5,4 @@ pub mod Append
 pub mod Gates
 pub mod ReadOn
 pub mod Heads
+pub mod Formats

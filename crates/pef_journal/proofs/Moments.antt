@@ -1,7 +1,7 @@
 -- What a crash leaves while calls follow one another.
-use Rattle.std.proofs.Common.{◌≡◌, ◌⊎◌, ◌↔◌, inl, inr, ⊎_elim, ℕ, ◌+◌, ◌≤◌, List, [], ◌∷◌, ◌++◌, length, IsTrue, refl, sym, ◌∙◌, ap, subst, arith}
+use Rattle.std.proofs.Common.{◌≡◌, ◌↔◌, inl, inr, ⊎_elim, ℕ, List, IsTrue, sym, ◌∙◌, ap, arith}
 use Rattle.pef_journal.specs.Journal.{LeavesAsRead}
-use Rattle.board_core.specs.Board.{BoardView, Left, LeftNow, IsSound, IsFileRun, IsFileCall, Reads, Syncs, LeavesOnly, SyncsFirst, NeverSynced, SameSteps, steps_of, tolds_of, Only}
+use Rattle.board_core.specs.Board.{BoardView, Left, LeftNow, IsSound, IsFileRun, IsFileCall, Reads, LeavesOnly, SyncsFirst, NeverSynced, steps_of, tolds_of, Only}
 
 -- before the first call
 pub started : (v : BoardView) (P : Left → Type 0) → IsSound v → IsTrue v.tells → ((left : Left) → LeftNow v left → P left) → LeavesOnly v v P
@@ -14,7 +14,6 @@ goes_on old mid new P so_far call tells here = record {
   each = λ left since. ⊎_elim (so_far.each left) (here left) (call.nothing_else tells old.moment left so_far.later since);
   before = λ t left le since. ⊎_elim (so_far.before t left le) (λ now. inr (here left now)) (call.nothing_else tells t left (omega (arith, le, so_far.later)) since);
 }
-
 
 -- two runs of calls of the file
 pub run_compose : (u v w : BoardView) → IsFileRun u v → IsFileRun v w → IsFileRun u w
@@ -54,13 +53,13 @@ syncs_reads start now new P sound_now sound_new reads tells s = record {
   after_start = s.after_start;
   by_now = omega (arith, s.by_now, reads.call.run.later tells);
   until = λ left since. ⊎_elim
-    (λ old. ⊎_elim inl (λ later. inr (reads.call.run.keeps tells s.synced left s.by_now later)) (s.until left old))
-    (λ at_new. inr (sound_new.counts_now tells s.synced left (omega (arith, s.by_now, reads.call.run.later tells)) at_new))
-    (reads.call.nothing_else tells start.moment left (omega (arith, s.after_start, s.by_now)) since);
+      (λ old. ⊎_elim inl (λ later. inr (reads.call.run.keeps tells s.synced left s.by_now later)) (s.until left old))
+      (λ at_new. inr (sound_new.counts_now tells s.synced left (omega (arith, s.by_now, reads.call.run.later tells)) at_new))
+      (reads.call.nothing_else tells start.moment left (omega (arith, s.after_start, s.by_now)) since);
   since = λ left since. ⊎_elim (s.since left)
-    (λ at_new. s.since left (sound_now.counts_now (reads.call.run.tells tells) s.synced left s.by_now
+      (λ at_new. s.since left (sound_now.counts_now (reads.call.run.tells tells) s.synced left s.by_now
       (record { image = (reads.images tells left.image).0 at_new.image; issued = at_new.issued ∙ ap steps_of (reads.call.run.sent tells); told = at_new.told ∙ ap tolds_of (reads.call.run.sent tells) })))
-    (reads.call.nothing_else tells s.synced left s.by_now since);
+      (reads.call.nothing_else tells s.synced left s.by_now since);
 }
 
 -- two calls that only read, one behind the other
@@ -69,9 +68,9 @@ reads_compose u v w first second = record {
   call = record {
     run = run_compose u v w first.call.run second.call.run;
     nothing_else = λ tells t left le since. ⊎_elim
-      (λ at_v. ⊎_elim inl (λ now. inr (read_later left tells now)) (first.call.nothing_else (second.call.run.tells tells) t left le at_v))
-      inr
-      (second.call.nothing_else tells t left (omega (arith, le, first.call.run.later (second.call.run.tells tells))) since);
+        (λ at_v. ⊎_elim inl (λ now. inr (read_later left tells now)) (first.call.nothing_else (second.call.run.tells tells) t left le at_v))
+        inr
+        (second.call.nothing_else tells t left (omega (arith, le, first.call.run.later (second.call.run.tells tells))) since);
   };
   octets = λ tells. second.octets tells ∙ first.octets (second.call.run.tells tells);
   images = λ tells c. (
@@ -91,8 +90,8 @@ reads_compose u v w first second = record {
 pub never_synced : (v w : BoardView) → IsSound v → IsFileCall v w → IsTrue w.tells → ((c : List ℕ) → w.images c ↔ v.images c) → NeverSynced v w
 never_synced v w sound call tells same = record {
   until = λ left since. ⊎_elim (sound.only_now (call.run.tells tells) left)
-    (λ now. record { image = (same left.image).0 now.image; issued = now.issued ∙ ap steps_of (call.run.sent tells); told = now.told ∙ ap tolds_of (call.run.sent tells) })
-    (call.nothing_else tells v.moment left (omega arith) since);
+      (λ now. record { image = (same left.image).0 now.image; issued = now.issued ∙ ap steps_of (call.run.sent tells); told = now.told ∙ ap tolds_of (call.run.sent tells) })
+      (call.nothing_else tells v.moment left (omega arith) since);
 }
 
 -- or it is done
@@ -102,10 +101,10 @@ first_sync v w sound_v sound_w call tells octets lasting = record {
   after_start = call.run.later tells;
   by_now = omega arith;
   until = λ left since. ⊎_elim
-    (λ was. inl (sound_v.only_now (call.run.tells tells) left was))
-    (λ now. inr (sound_w.counts_now tells w.moment left (omega arith) now))
-    (call.nothing_else tells v.moment left (omega arith) since);
+      (λ was. inl (sound_v.only_now (call.run.tells tells) left was))
+      (λ now. inr (sound_w.counts_now tells w.moment left (omega arith) now))
+      (call.nothing_else tells v.moment left (omega arith) since);
   since = λ left since.
-    let now = sound_w.only_now tells left since in
-    (record { issued = now.issued ∙ ap steps_of (call.run.sent tells); told = now.told ∙ ap tolds_of (call.run.sent tells) }, lasting left.image now.image ∙ octets);
+      let now = sound_w.only_now tells left since in
+      (record { issued = now.issued ∙ ap steps_of (call.run.sent tells); told = now.told ∙ ap tolds_of (call.run.sent tells) }, lasting left.image now.image ∙ octets);
 }

@@ -1,10 +1,9 @@
 -- What is read at a gate, and what the file stands for.
-use Rattle.std.proofs.Common.{◌≡◌, ◌≢◌, ◌⊎◌, inl, inr, ⊎_elim, ℕ, ◌+◌, ◌-◌, ◌*◌, ◌/◌, ◌%◌, ◌<◌, ◌≤◌, Bool, true, false, IsTrue, List, [], ◌∷◌, ◌++◌, length, get_or, take, drop, refl, sym, ◌∙◌, ap, subst, arith, append_assoc, length-append, take-append-drop}
-use Rattle.std.specs.Prelude.{⊤}
+use Rattle.std.proofs.Common.{◌≡◌, ⊎_elim, ℕ, ◌+◌, ◌-◌, ◌/◌, ◌%◌, ◌≤◌, true, false, IsTrue, List, [], ◌∷◌, ◌++◌, length, get_or, take, drop, refl, sym, ◌∙◌, ap, subst, arith, append_assoc, length-append, take-append-drop}
 use Rattle.std.proofs.Math.Nat.{div-add-mod}
-use Rattle.std.proofs.lemmas.List.{take_at, drop_at, drop_more, drop-drop, length-drop, length-take-le, append-nil, get_or-append-add}
+use Rattle.std.proofs.lemmas.List.{drop_at, drop_more, length-drop, length-take-le, append-nil, get_or-append-add}
 use Rattle.board_core.specs.Board.{BoardView, Reads}
-use Rattle.pef_journal.specs.Image.{header, blocks, IsPayload, AllPayloads, HasHeader, HasEntries, Stands, IsShutAt, IsOpenAt, IsCorruptAt, HasEntryAt, HasEntryWithin, length_at}
+use Rattle.pef_journal.specs.Image.{header, blocks, IsPayload, AllPayloads, HasEntries, IsForKind, Stands, StandsForNone, IsShutAt, IsCorruptAt, HasEntryAt, HasEntryWithin, length_at}
 use Rattle.pef_journal.specs.Gate.{LiesWithin}
 use Rattle.pef_journal.specs.Journal.{HasRead, IsAt, IsAtEnd, HasEnded, GivesEntry}
 use Rattle.pef_journal.specs.declared.journal.Journal.{Journal}
@@ -36,8 +35,12 @@ module _ (file : List ℕ) (place n : ℕ) (out : List ℕ) (within : LiesWithin
 
   pub entry_at : HasEntryAt file place out
   entry_at = (
-    take place file, behind_out, length-take-le place file (omega (arith, within.2)), payload_out,
-    λ none. absurd (omega (arith, some_behind, ap length none)), opens ∙ ap (λ l. take place file ++ l) block_is,
+    take place file,
+    behind_out,
+    length-take-le place file (omega (arith, within.2)),
+    payload_out,
+    λ none. absurd (omega (arith, some_behind, ap length none)),
+    opens ∙ ap (λ l. take place file ++ l) block_is,
   )
 
   pub drop_is : drop place file ≡ 165 ∷ (length out % 256) ∷ (length out / 256) ∷ (out ++ behind_out)
@@ -132,7 +135,7 @@ module _ (kind : ℕ) (Z : List ℕ) (before : List (List ℕ)) (v : BoardView) 
   pub at_not_corrupt : (after : List (List ℕ)) → IsAt kind Z before after v journal → IsCorruptAt v.octets journal.place → ⊥
   at_not_corrupt after at corrupt =
       entries_not_corrupt (header kind Z ++ blocks before) at.rest after at.left
-        (subst (λ k. IsCorruptAt ((header kind Z ++ blocks before) ++ at.rest) k) at.place (subst (λ l. IsCorruptAt l journal.place) (at.file.1 ∙ sym (append_assoc (header kind Z) (blocks before) at.rest)) corrupt))
+      (subst (λ k. IsCorruptAt ((header kind Z ++ blocks before) ++ at.rest) k) at.place (subst (λ l. IsCorruptAt l journal.place) (at.file.1 ∙ sym (append_assoc (header kind Z) (blocks before) at.rest)) corrupt))
 
 -- ---- one call of `entry`
 
@@ -165,7 +168,7 @@ module _ (kind : ℕ) (Z : List ℕ) (before : List (List ℕ)) (v w : BoardView
 
   -- behind an open one
   module _ (n : ℕ) (out : List ℕ) (within : LiesWithin journal.place n (length v.octets)) (opens : v.octets ≡ take journal.place v.octets ++ 165 ∷ (n % 256) ∷ (n / 256) ∷ drop (journal.place + 3) v.octets)
-    (out_is : out ≡ take n (drop (journal.place + 3) v.octets)) (place : new.place ≡ journal.place + (3 + n)) where
+      (out_is : out ≡ take n (drop (journal.place + 3) v.octets)) (place : new.place ≡ journal.place + (3 + n)) where
     abbrev tail : List ℕ
     tail = behind_out v.octets journal.place n out within opens out_is
 
@@ -176,7 +179,8 @@ module _ (kind : ℕ) (Z : List ℕ) (before : List (List ℕ)) (v w : BoardView
     read_more r = record {
       rest = tail;
       file = (
-        r.file.0, whole,
+        r.file.0,
+        whole,
         λ none. absurd (omega (arith, ap length none, length-append (blocks (before ++ out ∷ [])) tail, some_behind v.octets journal.place n out within opens out_is)),
       );
       payloads = all_append before (out ∷ []) r.payloads (payload_out v.octets journal.place n out within opens out_is, tt);
@@ -187,17 +191,29 @@ module _ (kind : ℕ) (Z : List ℕ) (before : List (List ℕ)) (v w : BoardView
       where
         block : List ℕ
         block = 165 ∷ (length out % 256) ∷ (length out / 256) ∷ (out ++ [])
+
         blocks_more : blocks (before ++ out ∷ []) ≡ blocks before ++ 165 ∷ (length out % 256) ∷ (length out / 256) ∷ (out ++ [])
         blocks_more = blocks-append before (out ∷ [])
+
         whole : w.octets ≡ header kind Z ++ (blocks (before ++ out ∷ []) ++ tail)
         whole =
             reads.octets tells ∙ r.file.1
             ∙ ap (λ l. header kind Z ++ l) (ap (λ l. blocks before ++ l) (rest_opens r ∙ ap (λ l. 165 ∷ (length out % 256) ∷ (length out / 256) ∷ (l ++ tail)) (sym (append-nil out)))
-              ∙ sym (append_assoc (blocks before) (165 ∷ (length out % 256) ∷ (length out / 256) ∷ (out ++ [])) tail) ∙ ap (λ l. l ++ tail) (sym blocks_more))
+            ∙ sym (append_assoc (blocks before) (165 ∷ (length out % 256) ∷ (length out / 256) ∷ (out ++ [])) tail) ∙ ap (λ l. l ++ tail) (sym blocks_more))
+
         place_new : new.place ≡ length (header kind Z ++ blocks (before ++ out ∷ []))
         place_new =
-            omega (arith, place, r.place, length-append (header kind Z) (blocks (before ++ out ∷ [])), ap length blocks_more, length-append (header kind Z) (blocks before),
-              length-append (blocks before) (165 ∷ (length out % 256) ∷ (length out / 256) ∷ (out ++ [])), length-append out [], length_out v.octets journal.place n out within opens out_is)
+            omega (
+              arith,
+              place,
+              r.place,
+              length-append (header kind Z) (blocks (before ++ out ∷ [])),
+              ap length blocks_more,
+              length-append (header kind Z) (blocks before),
+              length-append (blocks before) (165 ∷ (length out % 256) ∷ (length out / 256) ∷ (out ++ [])),
+              length-append out [],
+              length_out v.octets journal.place n out within opens out_is,
+            )
 
     pub gives_one : (after : List (List ℕ)) → IsAt kind Z before after v journal → GivesEntry kind Z before after w new out true
     unfolding has_read read_more
@@ -206,3 +222,16 @@ module _ (kind : ℕ) (Z : List ℕ) (before : List (List ℕ)) (v w : BoardView
         let same = block_same out e tail at.left.0 (sym (rest_opens (has_read kind Z before v journal (e ∷ es) at)) ∙ at.left.2) in
         let more = read_more (has_read kind Z before v journal (e ∷ es) at) in
         (same.0, subst (λ l. IsAt kind Z (before ++ l ∷ []) es w new) same.0 (stands_before kind Z (before ++ out ∷ []) w new es more (subst (HasEntries es) (sym same.1) at.left.3)))
+
+-- ---- a file that can't be read on stands for nothing
+
+pub stands_for_kind : (kind : ℕ) (Z : List ℕ) (entries : List (List ℕ)) (file : List ℕ) → Stands kind Z entries file → IsForKind kind file
+stands_for_kind kind Z entries file stands = (Z, stands.0, stands.1)
+
+-- where `open` answers that the file isn't of this kind
+pub unformatted_stands_for_none : (kind : ℕ) (file : List ℕ) → (IsForKind kind file → ⊥) → StandsForNone kind file
+unformatted_stands_for_none kind file none Z entries stands = none (stands_for_kind kind Z entries file stands)
+
+-- where `entry` answers that the gate is corrupt
+pub corrupt_stands_for_none : (kind : ℕ) (Z : List ℕ) (before : List (List ℕ)) (v : BoardView) (journal : Journal) → HasRead kind Z before v journal → IsCorruptAt v.octets journal.place → StandsForNone kind v.octets
+corrupt_stands_for_none kind Z before v journal r corrupt Y entries stands = corrupt_stands_not kind Z before v journal r Y entries corrupt stands

@@ -1,8 +1,8 @@
 -- An image stands for one history.
-use Rattle.std.proofs.Common.{◌≡◌, ◌≢◌, ℕ, ◌+◌, ◌*◌, ◌/◌, ◌%◌, List, [], ◌∷◌, ◌++◌, length, get_or, take, drop, map, refl, sym, ◌∙◌, ap, subst, arith, length-append}
+use Rattle.std.proofs.Common.{◌≡◌, ℕ, ◌/◌, ◌%◌, List, [], ◌∷◌, ◌++◌, length, get_or, take, drop, refl, sym, ◌∙◌, ap, subst, arith}
 use Rattle.std.proofs.Math.Nat.{div-add-mod}
 use Rattle.std.proofs.lemmas.List.{take_at, drop_at, append_cancel_left}
-use Rattle.pef_journal.specs.Image.{header, HasHeader, HasEntries, Stands}
+use Rattle.pef_journal.specs.Image.{header, HasEntries, Stands}
 
 -- what stands behind a gate says which entry it is
 pub block_same : (e f a b : List ℕ) → 165 ∷ (length e % 256) ∷ (length e / 256) ∷ (e ++ a) ≡ 165 ∷ (length f % 256) ∷ (length f / 256) ∷ (f ++ b) → (e ≡ f) × (a ≡ b)
@@ -10,8 +10,7 @@ block_same e f a b both =
     let low : length e % 256 ≡ length f % 256 = ap (λ l. get_or l 1 0) both in
     let high : length e / 256 ≡ length f / 256 = ap (λ l. get_or l 2 0) both in
     let same : length e ≡ length f = omega (arith, low, high, div-add-mod (length e) 256, div-add-mod (length f) 256) in
-    let rest : e ++ a ≡ f ++ b = ap (λ (l : List ℕ). drop 3 l) both in
-    (
+    let rest : e ++ a ≡ f ++ b = ap (λ (l : List ℕ). drop 3 l) both in (
       sym (take_at e a (length e) refl) ∙ ap (λ (l : List ℕ). take (length e) l) rest ∙ take_at f b (length e) (sym same),
       sym (drop_at e a (length e) refl) ∙ ap (λ (l : List ℕ). drop (length e) l) rest ∙ drop_at f b (length e) (sym same),
     )

@@ -1,5 +1,5 @@
 -- What is found at a gate.
-use Rattle.std.specs.Prelude.{◌≡◌, ℕ, ◌+◌, ◌*◌, ◌/◌, ◌%◌, ◌<◌, ◌≤◌, List, ◌∷◌, ◌++◌, length, take, drop, ⊤}
+use Rattle.std.specs.Prelude.{◌≡◌, ℕ, ◌+◌, ◌/◌, ◌%◌, ◌<◌, ◌≤◌, List, ◌∷◌, ◌++◌, length, take, drop, ⊤}
 use Rattle.pef_journal.specs.Image.{IsShutAt, IsCorruptAt}
 use Rattle.pef_journal.specs.declared.gate.Gate.{Gate}
 use Rattle.pef_journal.specs.declared.gate.Gate.TheVariants.{Closed, Corrupt, Open}

@@ -1,7 +1,7 @@
 -- Where a journal stands in its file.
-use Rattle.std.specs.Prelude.{◌≡◌, ◌≢◌, ◌⊎◌, ◌↔◌, ℕ, ◌+◌, ◌*◌, ◌/◌, ◌%◌, ◌<◌, ◌≤◌, Bool, true, false, IsTrue, List, [], ◌∷◌, ◌++◌, length, Result, Ok, Err, ⊤}
+use Rattle.std.specs.Prelude.{◌≡◌, ◌⊎◌, ℕ, ◌+◌, ◌≤◌, Bool, true, false, IsTrue, List, [], ◌∷◌, ◌++◌, length, Result, Ok, Err, ⊤}
 use Rattle.board_core.specs.Board.{BoardView, Left, Only, SameSteps}
-use Rattle.pef_journal.specs.Image.{header, blocks, HasHeader, HasEntries, IsPayload, AllPayloads, Stands, IsShutAt, IsCorruptAt, HasEntryAt}
+use Rattle.pef_journal.specs.Image.{header, blocks, HasHeader, HasEntries, AllPayloads, Stands, IsShutAt, IsCorruptAt, HasEntryAt}
 use Rattle.pef_journal.specs.declared.fault.JournalFault.{JournalFault}
 use Rattle.pef_journal.specs.declared.fault.JournalFault.TheVariants.{NotFormatted, Corrupt, DiskFault, Full}
 use Rattle.pef_journal.specs.declared.journal.Journal.{Journal}
@@ -14,8 +14,8 @@ abbrev pub HasRoom : Journal → ℕ → Type 0
 HasRoom journal n = journal.place + 4 + n ≤ 16777216
 
 -- the journal knows the length of the board's file, where that is told
-abbrev pub Fits : BoardView → Journal → Type 0
-Fits v journal = IsTrue v.tells → journal.file_length ≡ length v.octets
+abbrev pub KnowsLength : BoardView → Journal → Type 0
+KnowsLength v journal = IsTrue v.tells → journal.file_length ≡ length v.octets
 
 -- a crash leaves the file as a read gave it then, and no further step
 abbrev pub LeavesAsRead : BoardView → Left → Type 0

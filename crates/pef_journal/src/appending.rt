@@ -1,8 +1,9 @@
 //! Adding an entry behind the last.
 ghost use Rattle.std.specs.Prelude.{◌≡◌, ◌⊎◌, ◌↔◌, ◌+◌, ◌<◌, ℕ, List, [], ◌∷◌, ◌++◌, length, IsTrue, OnOk, OnErr, IsErrOf};
 ghost use Rattle.board_core.specs.Causes.{Rose};
-ghost use Rattle.board_core.specs.Board.{LeavesOnly, HasRoomFor, SameSteps, IsFileRun};
-ghost use Rattle.pef_journal.specs.Journal.{IsAtEnd, HasEnded, HasRoom, Fits, StandsForEither};
+ghost use Rattle.board_core.specs.Board.{LeavesOnly, HasRoomFor, Holds, SameSteps, IsFileRun};
+ghost use Rattle.pef_journal.specs.Image.{frame};
+ghost use Rattle.pef_journal.specs.Journal.{IsAtEnd, HasEnded, HasRoom, KnowsLength, StandsForEither};
 
 use crate::JournalFault;
 use crate::journal::Journal;
@@ -19,6 +20,9 @@ impl Journal {
         ensures added { IsTrue (B.view board.new).tells → (kind : ℕ) (settings : List ℕ) (entries : List (List ℕ)) →
             IsAtEnd kind settings entries (B.view board.old) self.old →
             OnOk result (IsAtEnd kind settings (entries ++ payload.now ∷ []) (B.view board.new) self.new) }
+        // the gate is opened, and behind it stand the length, the payload and the next gate
+        ensures written { IsTrue (B.view board.new).tells → OnOk result
+            (Holds (B.view board.old).octets self.old.place (165 ∷ frame payload.now) (B.view board.new).octets) }
         // a crash at any moment of the call leaves the entries, with the new one or without
         ensures any_moment { IsTrue (B.view board.new).tells → (kind : ℕ) (settings : List ℕ) (entries : List (List ℕ)) →
             IsAtEnd kind settings entries (B.view board.old) self.old →
@@ -30,6 +34,7 @@ impl Journal {
         ensures disk { IsErrOf result JournalFault.DiskFault → Rose (B.view board.old).disk_faults (B.view board.new).disk_faults }
         ensures other { OnErr result (IsErrOf result JournalFault.Full ⊎ IsErrOf result JournalFault.DiskFault) }
         ensures place { OnOk result (HasRoomFor (B.view board.new) (self.new.place + 1)) }
+        ensures knows { KnowsLength (B.view board.old) self.old → OnOk result (KnowsLength (B.view board.new) self.new) }
         ensures stays { HasEnded self.new }
     {
         payload.fits();

@@ -45,7 +45,12 @@ pub fn read_gate<B: Board>(board: &mut B, place: u64, file_length: u64) -> Resul
 }
 
 /// Puts so many octets from a place on into `out`.
-pub fn read_octets<B: Board>(board: &mut B, place: u64, count: usize, out: &mut Payload) -> Result<(), DiskFailed>
+pub fn read_octets<B: Board>(
+    board: &mut B,
+    place: u64,
+    count: usize,
+    out: &mut Payload,
+) -> Result<(), DiskFailed>
     requires count { count ≤ 520 }
     requires place { HasRoomFor (B.view board.old) (place + count) }
     ensures file { Reads (B.view board.old) (B.view board.new) }

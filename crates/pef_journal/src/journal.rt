@@ -35,7 +35,9 @@ impl Journal {
         ensures { IsTrue result ↔ HasRoom self.now length }
     {
         match u64::try_from(length) {
-            Ok(length) => length <= MAX_FILE && self.place <= MAX_FILE && self.place + 4 + length <= MAX_FILE,
+            Ok(length) => length <= MAX_FILE
+                && self.place <= MAX_FILE
+                && self.place + 4 + length <= MAX_FILE,
             Err(_) => false,
         }
     }

@@ -3,7 +3,7 @@ ghost use Rattle.std.specs.Prelude.{◌≡◌, ◌⊎◌, ◌+◌, ◌≤◌, �
 ghost use Rattle.board_core.specs.Causes.{Rose};
 ghost use Rattle.board_core.specs.Board.{HasRoomFor, IsFileRun, SyncsFirst, NeverSynced};
 ghost use Rattle.pef_journal.specs.Image.{Stands, HasSettingsLength, IsForKind};
-ghost use Rattle.pef_journal.specs.Journal.{IsAt, HasRead, Fits, LeavesAsRead, HasEnded};
+ghost use Rattle.pef_journal.specs.Journal.{IsAt, HasRead, KnowsLength, LeavesAsRead, HasEnded};
 
 use crate::JournalFault;
 use crate::journal::Journal;
@@ -14,7 +14,11 @@ use board_core::Board;
 impl Journal {
     /// Begins with a sync, reads the settings and stands before the first entry. `settings` has the length of the kind's
     /// settings. `NotFormatted` where the octets aren't those of a file of this kind, `DiskFault` only at a fault.
-    pub fn open<B: Board>(board: &mut B, kind: u8, settings: &mut [u8]) -> Result<Journal, JournalFault>
+    pub fn open<B: Board>(
+        board: &mut B,
+        kind: u8,
+        settings: &mut [u8],
+    ) -> Result<Journal, JournalFault>
         requires { HasSettingsLength kind settings.old }
         // once the sync is done, a crash leaves just what a read gives
         ensures synced { IsTrue (B.view board.new).tells →
@@ -35,7 +39,7 @@ impl Journal {
             (IsForKind kind (B.view board.old).octets → ⊥) → IsErr result }
         ensures disk { IsErrOf result JournalFault.DiskFault → Rose (B.view board.old).disk_faults (B.view board.new).disk_faults }
         ensures other { OnErr result (IsErrOf result JournalFault.NotFormatted ⊎ IsErrOf result JournalFault.DiskFault) }
-        ensures fits { IfOk result (λ journal. Fits (B.view board.new) journal) }
+        ensures fits { IfOk result (λ journal. KnowsLength (B.view board.new) journal) }
         ensures place { IfOk result (λ journal. HasRoomFor (B.view board.new) (journal.place + 1)) }
         ensures begins { IfOk result (λ journal. HasEnded journal → ⊥) }
     {

@@ -1,5 +1,5 @@
-use Rattle.std.proofs.Common.{◌≡◌, ◌⊎◌, inl, inr, ℕ, ◌+◌, IsTrue, refl, ◌∙◌, ap, Result, Ok, Err, OnOk}
-use Rattle.board_core.specs.Board.{BoardView, IsSound, Reads, SyncsFirst, Syncs, Only, IsFileCall}
+use Rattle.std.proofs.Common.{◌≡◌, inl, inr, IsTrue, Result, Ok, Err, OnOk}
+use Rattle.board_core.specs.Board.{BoardView, IsSound, Reads, SyncsFirst, Only, IsFileCall}
 use Rattle.pef_journal.specs.Journal.{LeavesAsRead}
 use Rattle.pef_journal.proofs.Moments.{never_synced, first_sync, syncs_reads}
 use Rattle.pef_journal.proofs.syncing.synced_length.Goals as goal
@@ -25,7 +25,7 @@ returns-clause-synced g c = λ tells.
     let x = g.B.Board.view c.len.new.self in
     let tells_w = c.len.ensures.same.call.run.tells tells in
     inr (synced v w x (g.met.B.Board.sound c.args.board.now) (g.met.B.Board.sound c.sync.new.self) (g.met.B.Board.sound c.len.new.self) c.sync.ensures.lasting.call (c.sync.ensures.lasting.octets tells_w)
-      (c.in_ok-sync.ensures.lasting.lasting tells_w) tells_w c.len.ensures.same tells)
+    (c.in_ok-sync.ensures.lasting.lasting tells_w) tells_w c.len.ensures.same tells)
 
 pub returns-clause-ok : goal.returns-clause-ok
 returns-clause-ok g c = λ tells.
@@ -34,4 +34,4 @@ returns-clause-ok g c = λ tells.
     let x = g.B.Board.view c.len.new.self in
     let tells_w = c.len.ensures.same.call.run.tells tells in
     on_ok c.len.result _ (synced v w x (g.met.B.Board.sound c.args.board.now) (g.met.B.Board.sound c.sync.new.self) (g.met.B.Board.sound c.len.new.self) c.sync.ensures.lasting.call (c.sync.ensures.lasting.octets tells_w)
-      (c.in_ok-sync.ensures.lasting.lasting tells_w) tells_w c.len.ensures.same tells)
+    (c.in_ok-sync.ensures.lasting.lasting tells_w) tells_w c.len.ensures.same tells)

@@ -1,7 +1,6 @@
-use Rattle.std.proofs.Common.{◌≡◌, ℕ, ◌+◌, IsTrue, refl, ◌∙◌, ap, subst, true, false, List, take, drop}
+use Rattle.std.proofs.Common.{◌≡◌, ℕ, ◌+◌, refl, subst, true, false, List, take, drop}
 use Rattle.pef_journal.specs.Gate.{GateIs}
 use Rattle.pef_journal.specs.declared.gate.Gate.{Gate}
-use Rattle.pef_journal.specs.declared.journal.Journal.{Journal}
 use Rattle.pef_journal.proofs.Moments.{reads_compose}
 use Rattle.pef_journal.proofs.ReadOn.{read_closed, gives_none, read_more, gives_one, entry_at, at_not_corrupt}
 use Rattle.pef_journal.proofs.journal.Journal.entry.Goals as goal

@@ -1,11 +1,9 @@
-use Rattle.std.proofs.Common.{◌≡◌, ◌⊎◌, inl, inr, ℕ, ◌+◌, ◌<◌, Some, IsTrue, refl, sym, ◌∙◌, ap, subst, arith, rules, List, [], take, drop, length}
+use Rattle.std.proofs.Common.{◌≡◌, inr, ◌+◌, ◌<◌, Some, IsTrue, sym, ◌∙◌, ap, arith, rules, take, drop, length}
 use Rattle.std.proofs.lemmas.List.{append-nil}
-use Rattle.board_core.specs.Board.{Only}
 use Rattle.pef_journal.specs.Image.{HasHeader}
-use Rattle.pef_journal.specs.Journal.{LeavesAsRead, HasRead}
-use Rattle.pef_journal.specs.declared.journal.Journal.{Journal}
+use Rattle.pef_journal.specs.Journal.{LeavesAsRead}
 use Rattle.pef_journal.proofs.Moments.{syncs_reads}
-use Rattle.pef_journal.proofs.Heads.{head, head_of_kind, long_for_kind, has_header, opens_at}
+use Rattle.pef_journal.proofs.Heads.{head, has_header, opens_at}
 use Rattle.pef_journal.proofs.journal.Journal.open.Given
 use Rattle.pef_journal.proofs.journal.Journal.open.Goals as goal
 
@@ -43,7 +41,7 @@ read g c = λ tells.
       place = omega (arith, same, ap length (append-nil Y));
       file_length = size;
       lasting = λ image now.
-        c.in_ok-file_length.ensures.lasting tells_w image ((c.read_at.ensures.same.images tells_x image).0 ((c.read_at-2.ensures.same.images tells image).0 now)) ∙ sym (octets_y ∙ octets_x);
+          c.in_ok-file_length.ensures.lasting tells_w image ((c.read_at.ensures.same.images tells_x image).0 ((c.read_at-2.ensures.same.images tells image).0 now)) ∙ sym (octets_y ∙ octets_x);
     }
 
 pub returns-clause-read : goal.returns-clause-read
@@ -58,7 +56,7 @@ returns-clause-ok g c = λ tells.
     let tells_x = c.read_at-2.ensures.same.call.run.tells tells in
     let tells_w = c.read_at.ensures.same.call.run.tells tells_x in
     syncs_reads v x y (LeavesAsRead v) (g.met.B.Board.sound c.read_at.new.self) (g.met.B.Board.sound c.read_at-2.new.self) c.read_at-2.ensures.same tells
-      (syncs_reads v w x (LeavesAsRead v) (g.met.B.Board.sound c.synced_length.new.board) (g.met.B.Board.sound c.read_at.new.self) c.read_at.ensures.same tells_x (c.in_ok-file_length.ensures.ok tells_w))
+    (syncs_reads v w x (LeavesAsRead v) (g.met.B.Board.sound c.synced_length.new.board) (g.met.B.Board.sound c.read_at.new.self) c.read_at.ensures.same tells_x (c.in_ok-file_length.ensures.ok tells_w))
 
 pub returns-clause-synced : goal.returns-clause-synced
 returns-clause-synced g c = λ tells. inr (returns-clause-ok g c tells)
