@@ -3,3 +3,4 @@ pub mod LinesLemmas
 pub mod FormLemmas
 pub mod Spelling
 pub mod ScriptLemmas
+pub mod SettingsLemmas

@@ -21,3 +21,9 @@ lines_of (b ∷ text) =
 -- the longest line in octets, without its end
 abbrev pub line_limit : ℕ
 line_limit = 1200
+
+-- the octets without one such octet at their end
+abbrev pub without_last : ℕ → List ℕ → List ℕ
+without_last e [] = []
+without_last e (b ∷ []) = if nat_eq b e then [] else b ∷ []
+without_last e (b ∷ c ∷ line) = b ∷ without_last e (c ∷ line)

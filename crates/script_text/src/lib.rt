@@ -4,7 +4,9 @@
 mod form;
 mod parse;
 mod reader;
+mod settings;
 
 pub use form::Form;
 pub use parse::{read_form, spelled};
 pub use reader::{Found, LineBuffer, Reader};
+pub use settings::{SettingsOctets, settings_of, settings_spelled};

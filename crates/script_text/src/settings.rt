@@ -1,0 +1,61 @@
+// The settings text: one line that names the filter.
+ghost use Rattle.std.specs.Prelude.{◌≡◌, ◌≢◌, ◌↔◌, ℕ, List, Option, Some, MatchOption};
+ghost use Rattle.script_text.specs.Lines.{without_last};
+ghost use Rattle.script_text.specs.Settings.{settings_of, settings_line, settings_octets, SpellsSettings};
+
+use hex::decode_to_slice;
+
+/// The settings as they stand in a controller's state file: 55 octets.
+pub type SettingsOctets = [u8; 55];
+
+// What stands before the filter: system GUID, agent address, manufacturer ID, system ID, three ports (each with its low
+// octet first), PEF control, action control mask and startup delay.
+const DEFAULTS: [u8; 35] = [
+    0, 0, 0, 0, 0, 0, 0, 0, 0, 0, 0, 0, 0, 0, 0, 0, 0, 0, 0, 0, 0, 0, 0, 0, 0, 0, 162, 0, 162, 0,
+    162, 0, 1, 63, 0,
+];
+
+/// The settings that a text gives: None where it isn't the line `filter = "<40 hexadecimal digits>"`, with or without
+/// 0Ah at its end.
+pub fn settings_of(text: &[u8]) -> Option<SettingsOctets>
+    ensures { result ≡ settings_of text.now }
+{
+    let digits = quoted(line_of(text))?;
+    let mut filter = [0u8; 20];
+    match decode_to_slice(digits, &mut filter) {
+        Ok(()) => Some(octets_of(&filter)),
+        Err(_) => None,
+    }
+}
+
+// The text without one 0Ah at its end.
+fn line_of(text: &[u8]) -> &[u8]
+    ensures { result.now ≡ without_last 10 text.now }
+{
+    match text.strip_suffix(b"\n".as_slice()) {
+        Some(line) => line,
+        None => text,
+    }
+}
+
+// What stands between the quotes.
+fn quoted(line: &[u8]) -> Option<&[u8]>
+    ensures { MatchOption result ((digits : List ℕ) → line.now ≢ settings_line digits) (λ digits. line.now ≡ settings_line digits.now) }
+{
+    let rest = line.strip_prefix(b"filter = \"".as_slice())?;
+    rest.strip_suffix(b"\"".as_slice())
+}
+
+fn octets_of(filter: &[u8; 20]) -> SettingsOctets
+    ensures { result ≡ settings_octets filter.now }
+{
+    let mut octets = [0u8; 55];
+    octets[..35].copy_from_slice(&DEFAULTS);
+    octets[35..].copy_from_slice(filter);
+    octets
+}
+
+/// A law: a text gives settings exactly where it is so spelled.
+pub fn settings_spelled()
+    ensures { (text octets : List ℕ) → settings_of text ≡ Some octets ↔ ((filter : List ℕ) × SpellsSettings filter text × (octets ≡ settings_octets filter)) }
+{}
