@@ -1,12 +1,15 @@
 -- Settings texts and their lines.
-use Rattle.std.proofs.Common.{◌≡◌, ◌≢◌, ◌⊎◌, inl, inr, ℕ, zero, suc, Bool, true, false, nat_eq, bytes_eq, codes, if◌then◌else◌, List, [], ◌∷◌, ◌++◌, length, take, drop, Option, Some, None, Result, Ok, Err, MatchOption, MatchResult, Bor, refl, sym, ◌∙◌, ap, subst}
+use Rattle.std.proofs.Common.{◌≡◌, ◌≢◌, ◌⊎◌, inl, inr, ℕ, zero, suc, Bool, true, false, nat_eq, bytes_eq, codes, if◌then◌else◌, List, [], ◌∷◌, ◌++◌, length, take, drop, Option, Some, None, Result, Ok, Err, MatchOption, MatchResult, Bor, ◌+◌, ◌<◌, ◌≤◌, length-append, arith, refl, sym, ◌∙◌, ap, subst}
 use Rattle.std.specs.Bool.{Decides}
 use Rattle.std.proofs.lemmas.Bool.{ne_eqb, eq-eqb, false≢true}
 use Rattle.std.proofs.lemmas.Bool.Decides.{eqb_tells}
 use Rattle.std.proofs.lemmas.Slice.Eq.{bytes_eq-Decides}
 use Rattle.hex.specs.Hex.{decode_sized}
+use Rattle.hex.proofs.HexLemmas.{decode_sized-ok, decode_pairs-ok}
 use Rattle.hex.specs.declared.error.FromHexError.{FromHexError}
 use Rattle.script_text.specs.Lines.{without_last}
+use Rattle.script_text.specs.Whole.{text_limit}
+use Rattle.script_text.proofs.Spelling.{decodes_pairs}
 use Rattle.script_text.specs.Settings.{settings_octets, settings_line, SpellsSettings, quoted, settings_with, settings_of_line, settings_of}
 
 -- one octet at the end goes, another stays
@@ -106,3 +109,24 @@ decoded_ok (Err e) answer out m is = absurd (cc (sym m ∙ is))
 pub decoded_err : (r : Result (List ℕ) FromHexError) (answer : Result Unit FromHexError) (out : List ℕ) (e : FromHexError) → MatchResult r (λ bytes. (answer ≡ Ok tt) × (out ≡ bytes)) (λ e. answer ≡ Err e) → answer ≡ Err e → settings_with r ≡ None
 decoded_err (Ok bytes) answer out e m is = absurd (cc (sym m.0 ∙ is))
 decoded_err (Err f) answer out e m is = refl
+
+-- a longer text than one that is read whole gives none
+spelled_short : (text filter : List ℕ) → SpellsSettings filter text → length text ≤ 53
+spelled_short text filter (digits, decodes, is) =
+    let twenty = decode_sized-ok digits 20 filter decodes in
+    let pairs = (decode_pairs-ok 0 digits filter (decodes_pairs digits filter 20 decodes)).1 in
+    by is (omega (arith, twenty, pairs))
+  where
+    line_length : length (settings_line digits) ≡ length digits + 11
+    line_length = let l = length-append digits (codes "\"") in omega (arith, l)
+
+    by : (text ≡ settings_line digits) ⊎ (text ≡ settings_line digits ++ 10 ∷ []) → length digits ≡ 40 → length text ≤ 53
+    by (inl same) forty = let l = ap length same in omega (arith, l, line_length, forty)
+    by (inr longer) forty = let l = ap length longer in let k = length-append (settings_line digits) (10 ∷ []) in omega (arith, l, k, line_length, forty)
+
+pub long_gives : (text : List ℕ) → text_limit < length text → None ≡ settings_of text
+long_gives text long = by (settings_of text) (λ octets e. gives_spelled text octets e)
+  where
+    by : (o : Option (List ℕ)) → ((octets : List ℕ) → o ≡ Some octets → (filter : List ℕ) × SpellsSettings filter text × (octets ≡ settings_octets filter)) → None ≡ o
+    by None spelled = refl
+    by (Some octets) spelled = let s = spelled octets refl in let short = spelled_short text s.0 s.1 in absurd (omega (arith, short, long))

@@ -1,9 +1,13 @@
 // The settings text: one line that names the filter.
-ghost use Rattle.std.specs.Prelude.{◌≡◌, ◌≢◌, ◌↔◌, ℕ, List, Option, Some, MatchOption};
+ghost use Rattle.std.specs.Prelude.{◌≡◌, ◌≢◌, ◌↔◌, ◌≤◌, ℕ, List, Option, Some, MatchOption, Err, IfOk};
+ghost use Rattle.board_core.specs.Causes.{Rose};
 ghost use Rattle.script_text.specs.Lines.{without_last};
 ghost use Rattle.script_text.specs.Settings.{settings_of, settings_line, settings_octets, SpellsSettings};
 
+use crate::whole::{TextFault, read_text};
+use board_core::Source;
 use hex::decode_to_slice;
+use std::alloc::Global;
 
 /// The settings as they stand in a controller's state file: 55 octets.
 pub type SettingsOctets = [u8; 55];
@@ -25,6 +29,25 @@ pub fn settings_of(text: &[u8]) -> Option<SettingsOctets>
     match decode_to_slice(digits, &mut filter) {
         Ok(()) => Some(octets_of(&filter)),
         Err(_) => None,
+    }
+}
+
+/// Reads what is left of the source, to its end, and answers the settings that it gives: None where it isn't a settings
+/// text, or has more than 65,536 octets.
+///
+/// At None and at an error what is left of the source is left open.
+pub fn read_settings<S: Source>(
+    alloc: Global,
+    source: &mut S,
+) -> Result<Option<SettingsOctets>, TextFault>
+    ensures settings { (text : List ℕ) → S.left source.old ≡ Some text → IfOk result (λ settings. settings ≡ settings_of text) }
+    ensures later { S.faults source.old ≤ S.faults source.new }
+    ensures failed { result ≡ Err TextFault.Source → Rose (S.faults source.old) (S.faults source.new) }
+{
+    match read_text(alloc, source) {
+        Ok(Some(text)) => Ok(settings_of(text.as_slice())),
+        Ok(None) => Ok(None),
+        Err(fault) => Err(fault),
     }
 }
 
