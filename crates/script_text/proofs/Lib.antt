@@ -4,3 +4,5 @@ pub mod FormLemmas
 pub mod Spelling
 pub mod ScriptLemmas
 pub mod SettingsLemmas
+pub mod LastOctet
+pub mod SpelledLines

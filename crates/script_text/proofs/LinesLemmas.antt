@@ -3,9 +3,9 @@ use Rattle.std.proofs.Common.{◌≡◌, ◌≢◌, ◌⊎◌, ⊎_elim, inl, in
 use Rattle.std.proofs.lemmas.List.{append-nil}
 use Rattle.std.proofs.lemmas.Bool.{ne_eqb, eq-eqb, false≢true}
 use Rattle.std.proofs.lemmas.Bool.Decides.{eqb_tells}
-use Rattle.script_text.specs.Lines.{lines_of, begins_with, onto_first, without_last}
+use Rattle.script_text.specs.Lines.{lines_of, begins_with, onto_first, without_last, HasNoEnd}
 use Rattle.script_text.specs.Reading.{HasLeft, NamesLine, IsTooLong, GivesOctet, Finds}
-use Rattle.script_text.proofs.Read.{HasNoEnd, IsReading}
+use Rattle.script_text.proofs.Read.{IsReading}
 use Rattle.script_text.specs.declared.reader.Found.{Found}
 use Rattle.script_text.specs.declared.reader.Found.TheVariants.{Line, TooLong, End}
 

@@ -9,40 +9,9 @@ use Rattle.hex.proofs.HexLemmas.{decode_sized-ok, decode_pairs-ok}
 use Rattle.hex.specs.declared.error.FromHexError.{FromHexError}
 use Rattle.script_text.specs.Lines.{without_last}
 use Rattle.script_text.specs.Whole.{text_limit}
+use Rattle.script_text.proofs.LastOctet.{without_last-push, without_last-other, without_last-is}
 use Rattle.script_text.proofs.Spelling.{decodes_pairs}
 use Rattle.script_text.specs.Settings.{settings_octets, settings_line, SpellsSettings, quoted, settings_with, settings_of_line, settings_of}
-
--- one octet at the end goes, another stays
-pub without_last-push : (e : ℕ) (line : List ℕ) → without_last e (line ++ e ∷ []) ≡ line
-without_last-push e [] = rw (eq-eqb e e refl) refl
-without_last-push e (b ∷ []) = ap (λ l. b ∷ l) (without_last-push e [])
-without_last-push e (b ∷ c ∷ line) = ap (λ l. b ∷ l) (without_last-push e (c ∷ line))
-
-pub without_last-other : (e b : ℕ) (line : List ℕ) → b ≢ e → without_last e (line ++ b ∷ []) ≡ line ++ b ∷ []
-without_last-other e b [] other = rw (ne_eqb b e other) refl
-without_last-other e b (a ∷ []) other = ap (λ l. a ∷ l) (without_last-other e b [] other)
-without_last-other e b (a ∷ c ∷ line) other = ap (λ l. a ∷ l) (without_last-other e b (c ∷ line) other)
-
-pub without_last-is : (e : ℕ) (line : List ℕ) → (line ≡ without_last e line) ⊎ (line ≡ without_last e line ++ e ∷ [])
-without_last-is e [] = inl refl
-without_last-is e (b ∷ []) = by (eqb_tells b e)
-  where
-    by : ((nat_eq b e ≡ true) × (b ≡ e)) ⊎ ((nat_eq b e ≡ false) × (b ≢ e)) → (b ∷ [] ≡ without_last e (b ∷ [])) ⊎ (b ∷ [] ≡ without_last e (b ∷ []) ++ e ∷ [])
-    by (inl is) = inr (rw is.0 (ap (λ n. n ∷ []) is.1))
-    by (inr other) = inl (rw other.0 refl)
-without_last-is e (b ∷ c ∷ line) = by (without_last-is e (c ∷ line))
-  where
-    by : (c ∷ line ≡ without_last e (c ∷ line)) ⊎ (c ∷ line ≡ without_last e (c ∷ line) ++ e ∷ []) → (b ∷ c ∷ line ≡ b ∷ without_last e (c ∷ line)) ⊎ (b ∷ c ∷ line ≡ b ∷ without_last e (c ∷ line) ++ e ∷ [])
-    by (inl same) = inl (ap (λ l. b ∷ l) same)
-    by (inr shorter) = inr (ap (λ l. b ∷ l) shorter)
-
--- no octet at the end is that one
-pub without_last-kept : (e : ℕ) (line : List ℕ) → ((front : List ℕ) → line ≢ front ++ e ∷ []) → without_last e line ≡ line
-without_last-kept e line none = by (without_last-is e line)
-  where
-    by : (line ≡ without_last e line) ⊎ (line ≡ without_last e line ++ e ∷ []) → without_last e line ≡ line
-    by (inl same) = sym same
-    by (inr shorter) = absurd (none (without_last e line) shorter)
 
 quoted_line : (digits : List ℕ) → quoted (settings_line digits) ≡ digits
 quoted_line digits = without_last-push 34 digits

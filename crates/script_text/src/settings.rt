@@ -77,8 +77,3 @@ fn octets_of(filter: &[u8; 20]) -> SettingsOctets
     octets[35..].copy_from_slice(filter);
     octets
 }
-
-/// A law: a text gives settings exactly where it is so spelled.
-pub fn settings_spelled()
-    ensures { (text octets : List ℕ) → settings_of text ≡ Some octets ↔ ((filter : List ℕ) × SpellsSettings filter text × (octets ≡ settings_octets filter)) }
-{}

@@ -2,7 +2,7 @@ use Rattle.std.proofs.Common.{◌≡◌, ℕ, List, sym, ◌∙◌, ap}
 use Rattle.std.proofs.lemmas.Slice.Eq.{strip_suffix_is}
 use Rattle.std.proofs.lemmas.Bool.Decides.{Decides-eqb}
 use Rattle.script_text.specs.Lines.{without_last}
-use Rattle.script_text.proofs.SettingsLemmas.{without_last-push, without_last-kept}
+use Rattle.script_text.proofs.LastOctet.{without_last-push, without_last-kept}
 use Rattle.script_text.proofs.settings.line_of.Goals as goal
 
 pub returns-in-Some : goal.returns-in-Some
