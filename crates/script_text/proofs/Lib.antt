@@ -6,3 +6,4 @@ pub mod ScriptLemmas
 pub mod SettingsLemmas
 pub mod LastOctet
 pub mod SpelledLines
+pub mod SpelledScripts

@@ -9,7 +9,7 @@ mod settings;
 mod whole;
 
 pub use form::Form;
-pub use laws::{form_spelled, lines_spelled, settings_spelled};
+pub use laws::{form_spelled, lines_spelled, script_spelled, settings_spelled};
 pub use parse::read_form;
 pub use reader::{Found, LineBuffer, Reader};
 pub use settings::{SettingsOctets, read_settings, settings_of};
