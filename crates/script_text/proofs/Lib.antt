@@ -7,3 +7,4 @@ pub mod SettingsLemmas
 pub mod LastOctet
 pub mod SpelledLines
 pub mod SpelledScripts
+pub mod Examples

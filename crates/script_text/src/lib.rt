@@ -14,3 +14,6 @@ pub use parse::read_form;
 pub use reader::{Found, LineBuffer, Reader};
 pub use settings::{SettingsOctets, read_settings, settings_of};
 pub use whole::{TextFault, read_text};
+
+#[cfg(test)]
+mod tests;
