@@ -4,7 +4,7 @@ use Rattle.hex.specs.Hex.{encode_lower}
 use Rattle.board_core.specs.declared.step.Act.{Act}
 use Rattle.board_core.specs.declared.step.Act.TheVariants.{PowerDown, PowerCycle, Reset, DiagInt, Oem}
 
--- the word of an action (IPMI 2.0, section 17.1)
+-- the word of an action (IPMI 2.0, chapter 17)
 abbrev pub kind_text : Act → List ℕ
 kind_text PowerDown = codes "power-down"
 kind_text PowerCycle = codes "power-cycle"

@@ -3,9 +3,9 @@ use Rattle.std.proofs.Common.{◌≡◌, ◌≢◌, ◌⊎◌, ⊎_elim, inl, in
 use Rattle.std.proofs.lemmas.List.{append-nil}
 use Rattle.std.proofs.lemmas.Bool.{ne_eqb, eq-eqb, false≢true}
 use Rattle.std.proofs.lemmas.Bool.Decides.{eqb_tells}
-use Rattle.script_text.specs.Lines.{lines_of, begins_with, onto_first}
-use Rattle.script_text.specs.Reading.{HasLeft, NamesLine, IsTooLong, GivesOctet, Finds, without_return}
-use Rattle.script_text.proofs.Read.{HasNoEnd, IsReading}
+use Rattle.script_text.specs.Lines.{lines_of, begins_with, onto_first, without_last, HasNoEnd}
+use Rattle.script_text.specs.Reading.{HasLeft, NamesLine, IsTooLong, GivesOctet, Finds}
+use Rattle.script_text.proofs.Read.{IsReading}
 use Rattle.script_text.specs.declared.reader.Found.{Found}
 use Rattle.script_text.specs.declared.reader.Found.TheVariants.{Line, TooLong, End}
 
@@ -17,7 +17,7 @@ lines_octet b text other none = rw (ne_eqb b 10 other) (rw none (by (nat_eq b 13
     by true = refl
     by false = refl
 
-pub lines_front : (line rest : List ℕ) → HasNoEnd line → lines_of (line ++ 10 ∷ rest) ≡ without_return line ∷ lines_of rest
+pub lines_front : (line rest : List ℕ) → HasNoEnd line → lines_of (line ++ 10 ∷ rest) ≡ without_last 13 line ∷ lines_of rest
 lines_front [] rest none = refl
 lines_front (b ∷ []) rest none = rw (ne_eqb b 10 none.0) (by (nat_eq b 13))
   where
@@ -57,14 +57,14 @@ pub no_end-push : (line : List ℕ) (b : ℕ) → HasNoEnd line → b ≢ 10 →
 no_end-push [] b none other = (other, tt)
 no_end-push (a ∷ line) b none other = (none.0, no_end-push line b none.1 other)
 
-pub return_cut : (line : List ℕ) (n : ℕ) → length line ≡ suc n → get_or line n 0 ≡ 13 → take n line ≡ without_return line
+pub return_cut : (line : List ℕ) (n : ℕ) → length line ≡ suc n → get_or line n 0 ≡ 13 → take n line ≡ without_last 13 line
 return_cut [] n long last = absurd (omega (arith, long))
 return_cut (b ∷ []) zero long last = rw (eq-eqb b 13 last) refl
 return_cut (b ∷ []) (suc n) long last = absurd (omega (arith, long))
 return_cut (b ∷ c ∷ line) zero long last = absurd (omega (arith, long))
 return_cut (b ∷ c ∷ line) (suc n) long last = ap (λ l. b ∷ l) (return_cut (c ∷ line) n (omega (arith, long)) last)
 
-pub return_kept : (line : List ℕ) (n b : ℕ) → length line ≡ suc n → get_or line n 0 ≡ b → b ≢ 13 → line ≡ without_return line
+pub return_kept : (line : List ℕ) (n b : ℕ) → length line ≡ suc n → get_or line n 0 ≡ b → b ≢ 13 → line ≡ without_last 13 line
 return_kept [] n b long last other = refl
 return_kept (a ∷ []) zero b long last other = rw (ne_eqb a 13 (λ f. other (sym last ∙ f))) refl
 return_kept (a ∷ []) (suc n) b long last other = absurd (omega (arith, long))
@@ -111,7 +111,7 @@ pub reading_over : (text line held next : List ℕ) (source after : Option (List
 reading_over text line held next source after r gives = r.whole ∙ ap (λ l. line ++ l) gives.0 ∙ append-nil line
 
 -- what was read is the next line
-pub names_ended : (text line held next : List ℕ) (source after : Option (List ℕ)) → (r : IsReading text held source line) → HasNoEnd line → (gives : GivesOctet r.rest next after (Some 10)) → lines_of text ≡ without_return line ∷ lines_of gives.0
+pub names_ended : (text line held next : List ℕ) (source after : Option (List ℕ)) → (r : IsReading text held source line) → HasNoEnd line → (gives : GivesOctet r.rest next after (Some 10)) → lines_of text ≡ without_last 13 line ∷ lines_of gives.0
 names_ended text line held next source after r none gives = ap lines_of (r.whole ∙ ap (λ l. line ++ l) gives.1) ∙ lines_front line gives.0 none
 
 pub names_last : (text line : List ℕ) → HasNoEnd line → line ≢ [] → text ≡ line → lines_of text ≡ line ∷ lines_of []

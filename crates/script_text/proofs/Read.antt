@@ -1,11 +1,6 @@
 -- What of a text was read so far.
-use Rattle.std.specs.Prelude.{◌≡◌, ◌≢◌, ⊤, ℕ, List, [], ◌∷◌, ◌++◌, Option}
+use Rattle.std.specs.Prelude.{◌≡◌, ℕ, List, ◌++◌, Option}
 use Rattle.script_text.specs.Reading.{HasLeft}
-
--- no 0Ah is among these octets
-abbrev pub HasNoEnd : List ℕ → Type 0
-HasNoEnd [] = ⊤
-HasNoEnd (b ∷ line) = (b ≢ 10) × HasNoEnd line
 
 -- these octets of the text were read, and the others are left
 pub record IsReading (text held : List ℕ) (source : Option (List ℕ)) (line : List ℕ) : Type 0 where

@@ -86,7 +86,7 @@ sized_pairs true fits r octets e f h = absurd (cc h)
 sized_pairs false true r octets e f h = h
 sized_pairs false false r octets e f h = absurd (cc h)
 
-decodes_pairs : (digits octets : List ℕ) (n : ℕ) → decode_sized digits n ≡ Ok octets → decode_pairs 0 digits ≡ Ok octets
+pub decodes_pairs : (digits octets : List ℕ) (n : ℕ) → decode_sized digits n ≡ Ok octets → decode_pairs 0 digits ≡ Ok octets
 decodes_pairs digits octets n h = sized_pairs (length digits % 2 == 1) (length digits / 2 == n) (decode_pairs 0 digits) octets OddLength InvalidStringLength h
 
 abbrev HasNoSpace : List ℕ → Type 0

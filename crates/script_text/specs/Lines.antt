@@ -1,5 +1,5 @@
 -- The lines of a text.
-use Rattle.std.specs.Prelude.{ℕ, Bool, true, false, ◌&&◌, nat_eq, if◌then◌else◌, List, [], ◌∷◌}
+use Rattle.std.specs.Prelude.{◌≡◌, ◌≢◌, ◌⊎◌, ⊤, ℕ, Bool, true, false, ◌&&◌, nat_eq, if◌then◌else◌, List, [], ◌∷◌, ◌++◌}
 
 abbrev pub begins_with : ℕ → List ℕ → Bool
 begins_with b [] = false
@@ -21,3 +21,24 @@ lines_of (b ∷ text) =
 -- the longest line in octets, without its end
 abbrev pub line_limit : ℕ
 line_limit = 1200
+
+-- the octets without one such octet at their end
+abbrev pub without_last : ℕ → List ℕ → List ℕ
+without_last e [] = []
+without_last e (b ∷ []) = if nat_eq b e then [] else b ∷ []
+without_last e (b ∷ c ∷ line) = b ∷ without_last e (c ∷ line)
+
+-- no 0Ah is among these octets
+abbrev pub HasNoEnd : List ℕ → Type 0
+HasNoEnd [] = ⊤
+HasNoEnd (b ∷ line) = (b ≢ 10) × HasNoEnd line
+
+-- A line with its end, and then the rest of a text. What ends with 0Dh 0Ah isn't a line with a 0Dh and then 0Ah.
+abbrev pub IsEnded : List ℕ → List ℕ → List ℕ → Type 0
+IsEnded line rest text = ((text ≡ line ++ 10 ∷ rest) × ((front : List ℕ) → line ≢ front ++ 13 ∷ [])) ⊎ (text ≡ line ++ 13 ∷ 10 ∷ rest)
+
+-- The same lines as a spelling: each has no 0Ah in it and is ended, but for the last, which may lack its end where it isn't empty.
+abbrev pub SpellsLines : List (List ℕ) → List ℕ → Type 0
+SpellsLines [] text = text ≡ []
+SpellsLines (line ∷ lines) text =
+    HasNoEnd line × (((rest : List ℕ) × IsEnded line rest text × SpellsLines lines rest) ⊎ ((lines ≡ []) × (text ≡ line) × (line ≢ [])))

@@ -1,5 +1,5 @@
 -- What a reader finds in a text.
-use Rattle.std.specs.Prelude.{◌≡◌, ℕ, nat_eq, if◌then◌else◌, ◌<◌, ◌≤◌, List, [], ◌∷◌, ◌++◌, length, Option, Some, None}
+use Rattle.std.specs.Prelude.{◌≡◌, ℕ, ◌<◌, ◌≤◌, List, [], ◌∷◌, ◌++◌, length, Option, Some, None}
 use Rattle.script_text.specs.Lines.{lines_of, line_limit}
 use Rattle.script_text.specs.declared.reader.Found.{Found}
 use Rattle.script_text.specs.declared.reader.Found.TheVariants.{Line, TooLong, End}
@@ -33,9 +33,3 @@ abbrev pub Finds : List ℕ → List ℕ → Option (List ℕ) → List ℕ → 
 Finds text held source line Line = NamesLine text held source line
 Finds text held source line TooLong = IsTooLong text
 Finds text held source line End = lines_of text ≡ []
-
--- a line without a 0Dh at its end
-abbrev pub without_return : List ℕ → List ℕ
-without_return [] = []
-without_return (b ∷ []) = if nat_eq b 13 then [] else b ∷ []
-without_return (b ∷ c ∷ line) = b ∷ without_return (c ∷ line)

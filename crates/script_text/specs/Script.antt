@@ -1,5 +1,5 @@
 -- What a script says: its head, the events that its lines give, and its first bad line.
-use Rattle.std.specs.Prelude.{◌≡◌, ◌≢◌, ⊤, ℕ, zero, suc, ◌+◌, nat_le, if◌then◌else◌, List, [], ◌∷◌, length, Option, Some, None}
+use Rattle.std.specs.Prelude.{◌≡◌, ◌≢◌, ⊤, ℕ, zero, suc, ◌+◌, ◌≤◌, nat_le, if◌then◌else◌, List, [], ◌∷◌, ◌++◌, length, map, Option, Some, None}
 use Rattle.script_text.specs.Lines.{lines_of, line_limit}
 use Rattle.script_text.specs.Forms.{form_of}
 use Rattle.script_text.specs.Reading.{HasLeft}
@@ -42,6 +42,10 @@ pub record Said : Type 0 where
   pub count : ℕ
   pub given : Given
 
+-- a script with this head, these events and this bad line
+abbrev pub said : ℕ → ℕ → List (List ℕ) → Option ℕ → Said
+said id count events bad = record { id = id; count = count; given = record { events = events; bad = bad } }
+
 abbrev pub said_by : Option Form → List (List ℕ) → Option Said
 said_by (Some (Head id count)) lines = Some (record { id = id; count = count; given = given lines count 2 })
 said_by (Some (Event octets)) lines = None
@@ -60,6 +64,45 @@ said_of text = said_of_lines (lines_of text)
 abbrev pub bad_line : Option Said → Option ℕ
 bad_line None = Some 1
 bad_line (Some said) = said.given.bad
+
+-- these lines are these events, one by one
+abbrev pub AreEvents : List (List ℕ) → List (List ℕ) → Type 0
+AreEvents items events = map form_of_line items ≡ map (λ octets. Some (Event octets)) events
+
+-- A whole script: a head, as many events as it says, an end, and lines that aren't read.
+pub record IsWholeScript (id count : ℕ) (events : List (List ℕ)) (text : List ℕ) : Type 0 where
+  pub head : List ℕ
+  pub items : List (List ℕ)
+  pub last : List ℕ
+  pub behind : List (List ℕ)
+  pub lines : lines_of text ≡ head ∷ items ++ last ∷ behind
+  pub is_head : form_of_line head ≡ Some (Head id count)
+  pub are_events : AreEvents items events
+  pub counted : length events ≡ count
+  pub is_end : form_of_line last ≡ Some End
+
+-- what comes after so many events of a count is no event that is still due, nor an end in its place
+abbrev pub IsBadNext : ℕ → ℕ → List (List ℕ) → Type 0
+IsBadNext taken count [] = ⊤
+IsBadNext taken count (line ∷ lines) =
+    ((octets : List ℕ) → form_of_line line ≡ Some (Event octets) → taken ≡ count) × (form_of_line line ≡ Some End → taken ≢ count)
+
+-- A script with a bad line behind its head and these events.
+pub record HasBadLine (id count : ℕ) (events : List (List ℕ)) (number : ℕ) (text : List ℕ) : Type 0 where
+  pub head : List ℕ
+  pub items : List (List ℕ)
+  pub behind : List (List ℕ)
+  pub lines : lines_of text ≡ head ∷ items ++ behind
+  pub is_head : form_of_line head ≡ Some (Head id count)
+  pub are_events : AreEvents items events
+  pub within : length events ≤ count
+  pub is_bad : IsBadNext (length events) count behind
+  pub number_is : number ≡ length events + 2
+
+-- the first line is no head
+abbrev pub HasNoHead : List (List ℕ) → Type 0
+HasNoHead [] = ⊤
+HasNoHead (line ∷ lines) = (id count : ℕ) → form_of_line line ≢ Some (Head id count)
 
 -- no line comes, or one that has no form
 abbrev pub HasNoForm : List (List ℕ) → Type 0

@@ -104,8 +104,3 @@ pub fn read_form(line: &[u8]) -> Option<Form>
     }
     None
 }
-
-/// A law: a line has a form exactly where it is so spelled, for each form.
-pub fn spelled()
-    ensures { (line : List ℕ) (form : Form) → form_of line ≡ Some form ↔ Spells form line }
-{}

@@ -1,8 +1,8 @@
 // A reader of lines over a source.
 ghost use Rattle.std.specs.Prelude.{◌≡◌, ◌≤◌, ◌<◌, ℕ, List, [], Option, IfOk, OnOk, length};
 ghost use Rattle.board_core.specs.Causes.{HasCause};
-ghost use Rattle.script_text.specs.Lines.{line_limit};
-ghost use Rattle.script_text.specs.Reading.{HasLeft, GivesOctet, Finds, without_return};
+ghost use Rattle.script_text.specs.Lines.{line_limit, without_last};
+ghost use Rattle.script_text.specs.Reading.{HasLeft, GivesOctet, Finds};
 ghost use Rattle.script_text.specs.Script.{GivesForm};
 
 use crate::form::Form;
@@ -154,7 +154,7 @@ fn fits(line: &LineBuffer) -> Found
 
 // Lets a 0Dh at the end go.
 fn drop_return(line: &mut LineBuffer)
-    ensures { line.new ≡ without_return line.old }
+    ensures { line.new ≡ without_last 13 line.old }
 {
     let octets = line.as_slice();
     let count = octets.len();

@@ -1,6 +1,7 @@
 use Rattle.std.proofs.Common.{◌≡◌, ◌≤◌, ◌<◌, ℕ, List, [], ◌++◌, Option, length, ◌+◌, ◌-◌, ◌*◌}
+use Rattle.script_text.specs.Lines.{HasNoEnd}
 use Rattle.script_text.specs.Reading.{HasLeft}
-use Rattle.script_text.proofs.Read.{HasNoEnd, IsReading}
+use Rattle.script_text.proofs.Read.{IsReading}
 use Rattle.script_text.proofs.reader.Reader.line.Given as goal
 
 abbrev pub invariant-octets : goal.invariant-octets
