@@ -12,7 +12,7 @@ abbrev pub wrong_bits : DataTest → ℕ → ℕ
 wrong_bits test value = bit_xor (bit_and value test.mask) test.compare_2
 
 module _ (test : DataTest) (value : ℕ) where
-  pub exact_bits_are_right : bit_and (wrong_bits test value) test.compare_1 ≡ 0
+  exact_bits_are_right : bit_and (wrong_bits test value) test.compare_1 ≡ 0
       → (n : ℕ) → n < 8 → bit_at test.compare_1 n ≡ 1 → IsSameAt test value n
   exact_bits_are_right none n below exact =
       xor-zero-same (bit_and value test.mask) test.compare_2 n (zero_at_mask (wrong_bits test value) test.compare_1 n none exact)

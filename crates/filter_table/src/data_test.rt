@@ -16,7 +16,7 @@ impl DataTest {
     pub fn fits(self, value: u8) -> bool
         ensures { IsTrue result ↔ Fits self value }
     {
-        let wrong = value & self.mask ^ self.compare_2;
+        let wrong = (value & self.mask) ^ self.compare_2;
         let exact = self.compare_1;
         wrong & exact == 0 && (exact == 0xFF || !wrong & !exact != 0)
     }

@@ -43,7 +43,7 @@ fn has_offset(filter: &Filter, event: &Record) -> bool
 {
     let [event_data_1, _, _] = event.event_data();
     let offset = event_data_1 % 16;
-    filter.offset_mask() >> offset & 1 == 1
+    (filter.offset_mask() >> offset) & 1 == 1
 }
 
 fn fits_data(filter: &Filter, event: &Record) -> bool
