@@ -1,0 +1,4 @@
+pub mod Asking
+pub mod History
+pub mod Histories
+pub mod View
