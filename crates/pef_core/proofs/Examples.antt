@@ -2,15 +2,17 @@
 use Rattle.std.proofs.Common.{◌≡◌, ℕ, true, false, List, [], ◌∷◌, ◌++◌, length, Some, None, refl}
 use Rattle.board_core.specs.declared.step.Step.TheVariants.{Act}
 use Rattle.board_core.specs.declared.step.Act.TheVariants.{DiagInt}
-use Rattle.board_core.specs.declared.step.Told.TheVariants.{Done, Failed}
+use Rattle.board_core.specs.declared.step.Told.TheVariants.{Failed}
 use Rattle.event_record.specs.declared.fault.RecordFault.TheVariants.{ReservedId}
 use Rattle.event_record.specs.declared.fault.LogFault.TheVariants.{Duplicate}
 use Rattle.filter_table.specs.declared.data_test.DataTest.{DataTest}
+use Rattle.pef_engine.specs.declared.entry.Entry.{Entry}
 use Rattle.pef_engine.specs.declared.entry.Entry.TheVariants.{Item as Taken, Outcome}
+use Rattle.pef_core.specs.declared.item.Item.{Item}
 use Rattle.pef_core.specs.declared.item.Item.TheVariants.{Event, Open, Close}
 use Rattle.pef_core.specs.declared.note.Note.TheVariants.{Added, Refused, NotAdded, Nothing}
 use Rattle.pef_core.specs.Asking.{fits, is_match, asks_by, asks}
-use Rattle.pef_core.specs.History.{Entry, log_of, note_after, script_of, outcomes_of}
+use Rattle.pef_core.specs.History.{log_of, note_after, script_of}
 use Rattle.pef_core.specs.Histories.{pending, encode}
 
 -- an enabled filter with these actions, on sensor type 04h and offset 2
@@ -62,19 +64,19 @@ unfolding fits
 misfit = (refl, refl, refl)
 
 -- a script of two items: an event that asks, and behind its outcome one that doesn't
-abbrev opened : List Entry
+abbrev opened : List (Entry Item)
 opened = Taken (Open 1 2) ∷ []
 
-abbrev logged : List Entry
+abbrev logged : List (Entry Item)
 logged = opened ++ Taken (Event fan) ∷ []
 
-abbrev answered : List Entry
+abbrev answered : List (Entry Item)
 answered = logged ++ Outcome Failed ∷ []
 
-abbrev full : List Entry
+abbrev full : List (Entry Item)
 full = answered ++ Taken (Event (fan_with 0x02 0x02 0x53)) ∷ []
 
-abbrev closed : List Entry
+abbrev closed : List (Entry Item)
 closed = full ++ Taken Close ∷ []
 
 is_pending : (pending settings opened ≡ None) × (pending settings logged ≡ Some (Act DiagInt 0x0001)) × (pending settings answered ≡ None) × (pending settings full ≡ None)

@@ -1,1 +1,4 @@
 pub mod Examples
+pub mod Matching
+pub mod Places
+pub mod Behind

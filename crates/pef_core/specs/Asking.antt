@@ -1,5 +1,5 @@
 -- Which records ask for a diagnostic interrupt: IPMI 2.0, sections 17.6 and 17.7.
-use Rattle.std.specs.Prelude.{ℕ, zero, suc, Bool, true, false, ◌&&◌, ◌||◌, ◌==◌, List, drop, bit_and}
+use Rattle.std.specs.Prelude.{ℕ, zero, suc, Bool, true, false, ◌&&◌, ◌||◌, ◌==◌, List, drop, filter, bit_and}
 use Rattle.std.specs.Int.{bit_at}
 use Rattle.event_record.specs.Fields.{octet, record_type, sensor_type, sensor_number, event_trigger, event_offset}
 use Rattle.filter_table.specs.declared.data_test.DataTest.{DataTest}
@@ -56,3 +56,7 @@ filter_of Z = drop 35 Z
 -- under these settings the event asks for a diagnostic interrupt
 abbrev pub asks : List ℕ → List ℕ → Bool
 asks Z event = asks_by (filter_of Z) event
+
+-- the records that a filter asks an action for, in their order
+abbrev pub asking_by : List ℕ → List (List ℕ) → List (List ℕ)
+asking_by entry log = filter (asks_by entry) log
