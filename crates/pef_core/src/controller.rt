@@ -70,7 +70,7 @@ impl Controller {
     }
 
     /// Whether the entry may come next.
-    pub(crate) fn allows(&self, entry: &Entry<Item>) -> bool
+    pub(crate) fn accepts(&self, entry: &Entry<Item>) -> bool
         ensures { IsTrue result ↔ AllowedBy self.now entry.now }
     {
         let is_due = self.mark < self.log.len();

@@ -13,3 +13,6 @@ mod scripts;
 pub use controller::Controller;
 pub use item::Item;
 pub use note::Note;
+
+#[cfg(test)]
+mod tests;

@@ -45,7 +45,7 @@ impl Machine for Controller {
     }
 
     fn allows(&self, entry: &Entry<Item>) -> bool {
-        self.allows(entry)
+        self.accepts(entry)
     }
 
     fn prepare(&mut self, _item: &Item) -> Result<(), MachineFault> {
