@@ -1,0 +1,6 @@
+pub mod Asking
+pub mod Places
+pub mod History
+pub mod Histories
+pub mod View
+pub mod Laws

@@ -1,0 +1,70 @@
+//! The controller as a machine over its history.
+ghost use Rattle.std.specs.Prelude.{refl};
+ghost use Rattle.pef_core.specs.Histories.{controller_rules};
+ghost use Rattle.pef_core.specs.View.{view_of};
+ghost use Rattle.pef_core.specs.Laws.{controller_agrees, same_size, are_entries, some_octet};
+
+use crate::controller::Controller;
+use crate::entries;
+use crate::item::Item;
+use board_core::{Payload, Step};
+use filter_table::Filter;
+use pef_engine::{Entry, Machine, MachineFault};
+use std::alloc::{AllocError, Global};
+
+/// A controller's settings are 55 octets, and the last 20 of them are its filter.
+impl Machine for Controller {
+    type Item = Item;
+
+    ghost rules = { controller_rules };
+
+    ghost view = { view_of };
+
+    ghost agrees = { controller_agrees };
+
+    ghost same_size = { same_size };
+
+    ghost are_entries = { are_entries };
+
+    ghost kind_fits = { refl };
+
+    ghost some_octet = { some_octet };
+
+    fn kind() -> u8 {
+        1
+    }
+
+    fn settings_length() -> usize {
+        55
+    }
+
+    fn fresh(alloc: Global, settings: &[u8]) -> Result<Self, AllocError> {
+        let mut filter = [0; 20];
+        filter.copy_from_slice(&settings[35..]);
+        Controller::new(alloc, Filter::read(&filter))
+    }
+
+    fn allows(&self, entry: &Entry<Item>) -> bool {
+        self.accepts(entry)
+    }
+
+    fn prepare(&mut self, _item: &Item) -> Result<(), MachineFault> {
+        Ok(())
+    }
+
+    fn apply(&mut self, entry: &Entry<Item>) {
+        self.go_on(entry);
+    }
+
+    fn next(&self) -> Option<Step> {
+        self.due()
+    }
+
+    fn encode_entry(entry: &Entry<Item>) -> Payload {
+        entries::encode(entry)
+    }
+
+    fn decode_entry(octets: &[u8]) -> Option<Entry<Item>> {
+        entries::decode(octets)
+    }
+}
