@@ -121,3 +121,10 @@ pub record HasForm (text held : List ℕ) (source : Option (List ℕ)) (form : F
 abbrev pub GivesForm : List ℕ → List ℕ → Option (List ℕ) → Option Form → Type 0
 GivesForm text held source (Some form) = HasForm text held source form
 GivesForm text held source None = HasNoForm (lines_of text)
+
+-- a script that it heads has at most 1,000,000 items
+abbrev pub HasCount : Option Form → Type 0
+HasCount (Some (Head id count)) = count ≤ 1000000
+HasCount (Some (Event octets)) = ⊤
+HasCount (Some End) = ⊤
+HasCount None = ⊤

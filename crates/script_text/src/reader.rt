@@ -3,7 +3,7 @@ ghost use Rattle.std.specs.Prelude.{◌≡◌, ◌≤◌, ◌<◌, ℕ, List, []
 ghost use Rattle.board_core.specs.Causes.{HasCause};
 ghost use Rattle.script_text.specs.Lines.{line_limit, without_last};
 ghost use Rattle.script_text.specs.Reading.{HasLeft, GivesOctet, Finds};
-ghost use Rattle.script_text.specs.Script.{GivesForm};
+ghost use Rattle.script_text.specs.Script.{GivesForm, HasCount};
 
 use crate::form::Form;
 use crate::parse::read_form;
@@ -128,6 +128,7 @@ impl Reader {
     /// At None and at an error what is left of the text is left open.
     pub fn form<S: Source>(&mut self, source: &mut S) -> Result<Option<Form>, SourceFailed>
         ensures form { (text : List ℕ) → HasLeft self.old (S.left source.old) text → IfOk result (GivesForm text self.new (S.left source.new)) }
+        ensures count { IfOk result HasCount }
         ensures cause { HasCause (S.faults source.old) (S.faults source.new) result }
     {
         let mut line = LineBuffer::new();
