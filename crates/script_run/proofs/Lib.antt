@@ -3,3 +3,5 @@ pub mod Moves
 pub mod RoomLemmas
 pub mod ScriptsLemmas
 pub mod TakesLemmas
+pub mod PlayLemmas
+pub mod TopLemmas

@@ -41,7 +41,7 @@ module _ {I M : Type 0} (rules : Rules I) (view : M → MachineView I) (Z : List
   too_much_outcome same none = inl (no_room (Outcome Done) (λ fits. none (λ told. omega (arith, fits, same told Done))))
 
 module _ {I M : Type 0} (rules : Rules I) (view : M → MachineView I) (line : List ℕ → List (Entry I) → Entry I → List ℕ) (Z : List ℕ) (H : List (Entry I)) where
-  comes_more : (G : List (Entry I)) (items more : List I) (e : Entry I) → ComesNext rules Z G items e → ComesNext rules Z G (items ++ more) e
+  pub comes_more : (G : List (Entry I)) (items more : List I) (e : Entry I) → ComesNext rules Z G items e → ComesNext rules Z G (items ++ more) e
   comes_more G items more (Item item) comes = (comes.0, comes.1 ++ more, ap (λ l. l ++ more) comes.2)
   comes_more G items more (Outcome told) comes = comes
 

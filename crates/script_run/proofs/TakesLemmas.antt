@@ -87,6 +87,18 @@ step_fault (Unfinished id count) step = absurd step
 step_fault (Line number) step = absurd step
 step_fault Unformatted step = absurd step
 
+-- a fault, wherever it comes
+pub fault_given : {I M : Type 0} (rules : Rules I) (view : M → MachineView I) (says : List ℕ → List (Entry I) → Entry I → List ℕ) (Z : List ℕ) (H : List (Entry I)) (all : List I) (bad : Option ℕ) (start now : BoardView) (engine : Engine M I) (before after : Option (List ℕ)) (stop : Stop) → IsFault stop
+    → LeavesOnly start now (LeavesPrefix rules Z H start all) → (stop ≡ Full → StopsFull rules view says Z H all start now engine before after) → RunsGiven rules view says Z H all bad start now engine before after (Err stop)
+fault_given rules view says Z H all bad start now engine before after Input fault m full = record { answers = tt; number = tt; moments = m; runs = λ h. absurd h; idle = tt; full = λ err. absurd (cc err) }
+fault_given rules view says Z H all bad start now engine before after Disk fault m full = record { answers = tt; number = tt; moments = m; runs = λ h. absurd h; idle = tt; full = λ err. absurd (cc err) }
+fault_given rules view says Z H all bad start now engine before after Output fault m full = record { answers = tt; number = tt; moments = m; runs = λ h. absurd h; idle = tt; full = λ err. absurd (cc err) }
+fault_given rules view says Z H all bad start now engine before after Memory fault m full = record { answers = tt; number = tt; moments = m; runs = λ h. absurd h; idle = tt; full = λ err. absurd (cc err) }
+fault_given rules view says Z H all bad start now engine before after Full fault m full = record { answers = tt; number = tt; moments = m; runs = λ h. absurd h; idle = tt; full = λ err. full refl }
+fault_given rules view says Z H all bad start now engine before after (Unfinished id count) fault m full = absurd fault
+fault_given rules view says Z H all bad start now engine before after (Line number) fault m full = absurd fault
+fault_given rules view says Z H all bad start now engine before after Unformatted fault m full = absurd fault
+
 module _ {I M : Type 0} (rules : Rules I) (view : M → MachineView I) (says : List ℕ → List (Entry I) → Entry I → List ℕ) (scripts : ScriptRules I) (Z : List ℕ) (H : List (Entry I)) (text : List ℕ) (count taken : ℕ) (start : BoardView) where
   -- all that the lines give
   abbrev all : List I
@@ -164,14 +176,7 @@ module _ {I M : Type 0} (rules : Rules I) (view : M → MachineView I) (says : L
 
   pub fault_text : (now : BoardView) (engine : Engine M I) (before after : Option (List ℕ)) (stop : Stop) → IsFault stop → LeavesOnly start now (LeavesPrefix rules Z H start all)
       → (stop ≡ Full → StopsFull rules view says Z H all start now engine before after) → RunsGiven rules view says Z H all (given (lines_of text) count 2).bad start now engine before after (Err stop)
-  fault_text now engine before after Input fault m full = record { answers = tt; number = tt; moments = m; runs = λ h. absurd h; idle = tt; full = λ err. absurd (cc err) }
-  fault_text now engine before after Disk fault m full = record { answers = tt; number = tt; moments = m; runs = λ h. absurd h; idle = tt; full = λ err. absurd (cc err) }
-  fault_text now engine before after Output fault m full = record { answers = tt; number = tt; moments = m; runs = λ h. absurd h; idle = tt; full = λ err. absurd (cc err) }
-  fault_text now engine before after Full fault m full = record { answers = tt; number = tt; moments = m; runs = λ h. absurd h; idle = tt; full = λ err. full refl }
-  fault_text now engine before after Memory fault m full = record { answers = tt; number = tt; moments = m; runs = λ h. absurd h; idle = tt; full = λ err. absurd (cc err) }
-  fault_text now engine before after (Unfinished id count) fault m full = absurd fault
-  fault_text now engine before after (Line number) fault m full = absurd fault
-  fault_text now engine before after Unformatted fault m full = absurd fault
+  fault_text now engine before after stop fault m full = fault_given rules view says Z H all (given (lines_of text) count 2).bad start now engine before after stop fault m full
 
   pub takes_moments : (now : BoardView) (engine : Engine M I) (before after : Option (List ℕ)) (held : List ℕ) (source : Option (List ℕ)) (skip left number items : ℕ)
       → (t : Takes rules view says scripts Z H text count taken start now engine before after held source skip left number items) → LeavesOnly start now (LeavesPrefix rules Z H start all)

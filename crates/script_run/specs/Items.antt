@@ -6,14 +6,14 @@ use Rattle.script_text.specs.Script.{Given, Said, said_of, bad_line}
 use Rattle.script_run.specs.Scripts.{ScriptRules}
 
 -- they have one id and one count
-abbrev pub is_same : Script → Said → Bool
-is_same script said = nat_eq script.id said.id && nat_eq script.count said.count
+abbrev pub is_same : Script → ℕ → ℕ → Bool
+is_same script id count = nat_eq script.id id && nat_eq script.count count
 
 -- another script was opened and is unfinished
 abbrev pub IsOther : Option Script → Option Said → Type 0
 IsOther None said = ⊥
 IsOther (Some script) None = ⊥
-IsOther (Some script) (Some said) = IsFalse script.closed × IsFalse (is_same script said)
+IsOther (Some script) (Some said) = IsFalse script.closed × IsFalse (is_same script said.id said.count)
 
 -- the closing item, where no line is bad
 abbrev pub closing_of : {I : Type 0} → ScriptRules I → Option ℕ → List I
@@ -29,8 +29,8 @@ abbrev pub items_after : {I : Type 0} → ScriptRules I → Option Script → Op
 items_after scripts script None = []
 items_after scripts None (Some said) = scripts.opening said.id said.count ∷ rest_of scripts 0 said.given
 items_after scripts (Some script) (Some said) =
-    if script.closed then (if is_same script said then [] else scripts.opening said.id said.count ∷ rest_of scripts 0 said.given)
-    else (if is_same script said then rest_of scripts script.taken said.given else [])
+    if script.closed then (if is_same script said.id said.count then [] else scripts.opening said.id said.count ∷ rest_of scripts 0 said.given)
+    else (if is_same script said.id said.count then rest_of scripts script.taken said.given else [])
 
 -- The items that a text gives after a history. A script that is closed gives none again; one that is unfinished goes on
 -- behind the items that were taken; where another one is unfinished, or line 1 is bad, there are none.

@@ -2,11 +2,15 @@
 #![tactic(auto)]
 
 mod course;
+mod head;
+mod playing;
 mod report;
+mod run;
 mod scripted;
 mod settling;
 mod stop;
 mod taking;
 
+pub use run::{perform, say_ok, say_stop, status};
 pub use scripted::{ReportLine, Scripted};
 pub use stop::Stop;

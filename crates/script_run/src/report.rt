@@ -85,7 +85,7 @@ fn told_name(told: Told) -> &'static [u8]
 }
 
 // Appends a part of a line, which has room for it.
-fn add(line: &mut ReportLine, part: &[u8])
+pub(crate) fn add(line: &mut ReportLine, part: &[u8])
     requires { length line.old + length part.now ≤ 1200 }
     ensures { line.new ≡ line.old ++ part.now }
 {
@@ -153,7 +153,7 @@ fn address(line: &mut ReportLine, to: &Address)
 }
 
 // Appends a number in decimal digits.
-fn number(line: &mut ReportLine, value: u32)
+pub(crate) fn number(line: &mut ReportLine, value: u32)
     requires { length line.old ≤ 128 }
     ensures appended { line.new ≡ line.old ++ decimal value }
     ensures short { length line.new ≤ length line.old + 10 }

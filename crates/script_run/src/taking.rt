@@ -1,11 +1,11 @@
 //! Taking what the lines of a script give.
-ghost use Rattle.std.specs.Prelude.{◌≡◌, ◌⊎◌, ◌↔◌, ◌≤◌, ℕ, List, [], ◌∷◌, Option, None, IsTrue, IfErr, OnOk, IfOk, IsErr, IsErrOf};
+ghost use Rattle.std.specs.Prelude.{◌≡◌, ◌⊎◌, ◌↔◌, ◌≤◌, ◌+◌, ℕ, List, [], ◌∷◌, Option, None, IsTrue, IfErr, OnOk, IfOk, IsErr, IsErrOf};
 ghost use Rattle.board_core.specs.Causes.{Rose};
 ghost use Rattle.pef_engine.specs.declared.entry.Entry.{Entry};
 ghost use Rattle.pef_engine.specs.Engine.{Holds, IsLive, HasPlace};
 ghost use Rattle.script_text.specs.Lines.{lines_of};
 ghost use Rattle.script_text.specs.Reading.{HasLeft};
-ghost use Rattle.script_text.specs.Script.{given, GivesForm};
+ghost use Rattle.script_text.specs.Script.{given, GivesForm, HasCount};
 ghost use Rattle.script_run.specs.Items.{rest_of};
 ghost use Rattle.script_run.specs.Report.{says};
 ghost use Rattle.script_run.specs.Run.{RunsGiven, IsReadyFor, Answers};
@@ -34,6 +34,7 @@ pub(crate) fn take_lines<M: Scripted, B: Board, S: Source, K: Sink>(engine: &mut
     ensures output { IsErrOf result Stop.Output → Rose (K.faults out.old) (K.faults out.new) }
     ensures input { IsErrOf result Stop.Input → Rose (S.faults source.old) (S.faults source.new) }
     ensures memory { IsErrOf result Stop.Memory → IsTrue M.rules.takes_memory }
+    ensures few { IfOk result (λ n. n ≤ count + 1) }
     ensures other { ((id count : ℕ) → IsErrOf result (Stop.Unfinished id count) → ⊥) × (IsErrOf result Stop.Unformatted → ⊥) }
 {
     let mut skip = taken;
@@ -122,6 +123,7 @@ pub(crate) fn pass_over<S: Source>(source: &mut S, reader: &mut Reader, count: u
 // The form of the next line, and None where it has none or no line comes.
 pub(crate) fn next_form<S: Source>(reader: &mut Reader, source: &mut S) -> Result<Option<Form>, Stop>
     ensures form { (text : List ℕ) → HasLeft reader.old (S.left source.old) text → IfOk result (GivesForm text reader.new (S.left source.new)) }
+    ensures count { IfOk result HasCount }
     ensures input { (IsErr result → IsErrOf result Stop.Input) × ((IsErr result → Rose (S.faults source.old) (S.faults source.new)) × (S.faults source.old ≤ S.faults source.new)) }
 {
     match reader.form(source) {

@@ -1,0 +1,243 @@
+-- From the opening and the calls after it to the whole run.
+use Rattle.std.proofs.Common.{◌≡◌, ◌⊎◌, inl, inr, ⊎_elim, ℕ, ◌+◌, ◌≤◌, List, [], ◌∷◌, ◌++◌, length, map, Option, Some, None, IsTrue, refl, sym, ◌∙◌, ap, subst, arith, append_assoc, Result, Ok, Err, OnOk, IfOk}
+use Rattle.std.specs.Prelude.{IsErrOf}
+use Rattle.std.proofs.lemmas.List.{append-nil, append_cancel_left}
+use Rattle.board_core.specs.declared.step.Told.{Told}
+use Rattle.board_core.specs.Board.{BoardView, Left, LeftNow, IsSound, LeavesOnly, SyncsFirst, NeverSynced, steps_of, tolds_of}
+use Rattle.pef_journal.specs.Image as image
+use Rattle.pef_engine.specs.declared.entry.Entry.{Entry}
+use Rattle.pef_engine.specs.declared.entry.Entry.TheVariants.{Item, Outcome}
+use Rattle.pef_engine.specs.declared.engine.Engine.{Engine}
+use Rattle.pef_engine.specs.Rules.{Rules, LawfulFrom, Lawful, Stands}
+use Rattle.pef_engine.specs.MachineView.{MachineView}
+use Rattle.pef_engine.specs.Lines.{line, LeavesPrefix, entry_items, entry_tolds, IsPrefixOf}
+use Rattle.pef_engine.specs.Engine.{AfterOpen}
+use Rattle.pef_engine.proofs.Compose.{line_goes_on, line_more}
+use Rattle.pef_engine.proofs.OnLine.{line_item, line_outcome}
+use Rattle.pef_engine.proofs.Stored.{images_stand}
+use Rattle.pef_engine.proofs.Moments.{leaves_start}
+use Rattle.script_text.specs.Script.{said_of, bad_line}
+use Rattle.script_run.specs.declared.stop.Stop.{Stop}
+use Rattle.script_run.specs.declared.stop.Stop.TheVariants.{Unformatted, Line, Unfinished, Input, Disk, Output, Full, Memory}
+use Rattle.script_run.specs.Scripts.{ScriptRules}
+use Rattle.script_run.specs.Items.{IsOther, items_of_text}
+use Rattle.script_run.specs.Report.{report_from}
+use Rattle.script_run.specs.Run.{Runs, StopsFull, ComesNext, RunsGiven, Answers}
+use Rattle.script_run.specs.Top.{SyncsThen, RunKeeps, RunTakes, ReturnLeft, IsFullAt, IsReported, AnswersOther, Plays, Performs, IsOpeningStop, AnswersNone}
+use Rattle.script_run.proofs.RunLemmas.{more_items}
+use Rattle.script_run.proofs.PlayLemmas.{none_of_other}
+
+-- a crash in what comes behind the opening
+pub syncs_then : (old mid new : BoardView) (P Q R : Left → Type 0) → SyncsFirst old mid P → LeavesOnly mid new Q → ((left : Left) → P left → R left) → ((left : Left) → Q left → R left) → SyncsThen old new R
+syncs_then old mid new P Q R first later p q = record {
+  synced = first.synced;
+  after_start = first.after_start;
+  by_now = omega (arith, first.by_now, later.later);
+  until = λ c since. ⊎_elim (λ m. ⊎_elim inl (λ s. inr (p c (first.since c s))) (first.until c m)) (λ h. inr (q c h)) (later.before old.moment c (omega (arith, first.after_start, first.by_now)) since);
+  since = λ c since. ⊎_elim (λ s. p c (first.since c s)) (q c) (later.before first.synced c first.by_now since);
+}
+
+module _ {I M : Type 0} (rules : Rules I) (view : M → MachineView I) (says : List ℕ → List (Entry I) → Entry I → List ℕ) (Z : List ℕ) (H : List (Entry I)) where
+  same_start : (items : List I) (old mid : BoardView) (left : Left) → mid.sent ≡ old.sent → LeavesPrefix rules Z H mid items left → LeavesPrefix rules Z H old items left
+  same_start items old mid left sent here = record {
+    steps = here.steps;
+    tolds = here.tolds;
+    issued = here.issued ∙ ap (λ s. steps_of s ++ here.steps) sent;
+    told = here.told ∙ ap (λ s. tolds_of s ++ here.tolds) sent;
+    entries = here.entries;
+    on_line = here.on_line;
+    stands = here.stands;
+    kept = here.kept;
+    only = here.only;
+  }
+
+  -- the headline, from the opening and the calls after it
+  pub run_keeps : (items : List I) (old mid new : BoardView) → SyncsFirst old mid (LeavesPrefix rules Z H old []) → mid.sent ≡ old.sent → LeavesOnly mid new (LeavesPrefix rules Z H mid items) → IsSound new → IsTrue new.tells
+      → RunKeeps rules Z H items old new
+  run_keeps items old mid new first sent later sound tells = record {
+    moments = inr (syncs_then old mid new (LeavesPrefix rules Z H old []) (LeavesPrefix rules Z H mid items) (LeavesPrefix rules Z H old items) first later
+      (λ left p. more_items rules view says Z H old [] items left p) (λ left q. same_start items old mid left sent q));
+    returned = same_start items old mid (ReturnLeft new) sent (later.each (ReturnLeft new)
+      (sound.counts_now tells mid.moment (ReturnLeft new) later.later (record { image = sound.is_image tells; issued = refl; told = refl })));
+  }
+
+  -- the line of a run that took all items and left nothing pending is its entries
+  pub line_is : (items : List I) (K : List (Entry I)) → LawfulFrom rules Z H K → entry_items K ≡ items → line rules Z H items (entry_tolds K) ≡ K
+  line_is items K lawful taken =
+      ap (λ i. line rules Z H i (entry_tolds K)) (sym taken ∙ sym (append-nil (entry_items K))) ∙ ap (λ t. line rules Z H (entry_items K ++ []) t) (sym (append-nil (entry_tolds K)))
+      ∙ line_goes_on rules Z H K [] [] lawful ∙ append-nil K
+
+  -- what an opening that fails leaves
+  pub open_keeps : (items : List I) (old new : BoardView) → IsSound new → IsTrue new.tells → new.sent ≡ old.sent → new.octets ≡ old.octets → Stands rules Z H old.octets → (NeverSynced old new ⊎ SyncsFirst old new (LeavesPrefix rules Z H old []))
+      → RunKeeps rules Z H items old new
+  open_keeps items old new sound tells sent octets stands moments = record {
+    moments = ⊎_elim inl
+      (λ s. inr (record { synced = s.synced; after_start = s.after_start; by_now = s.by_now; until = λ c since. ⊎_elim inl (λ later. inr (more_items rules view says Z H old [] items c (s.since c later))) (s.until c since);
+        since = λ c since. more_items rules view says Z H old [] items c (s.since c since) }))
+      moments;
+    returned = leaves_start rules Z H old items (ReturnLeft new) (record { issued = ap steps_of sent; told = ap tolds_of sent }) (subst (Stands rules Z H) (sym octets) stands);
+  }
+
+  -- all items were taken, and reported
+  pub run_takes : (items : List I) (old mid new : BoardView) (engine : Engine M I) (before after : Option (List ℕ)) → mid.sent ≡ old.sent → (r : Runs rules view says Z H items mid new engine before after) → RunTakes rules says Z H items old new before after []
+  run_takes items old mid new engine before after sent r =
+      let is = line_is items r.entries r.lawful r.taken in record {
+        tolds = entry_tolds r.entries;
+        told = r.told ∙ ap (λ s. tolds_of s ++ entry_tolds r.entries) sent;
+        taken = ap entry_items is ∙ r.taken;
+        lasting = λ c now. subst (λ K. Stands rules Z (H ++ K) c) (sym is) (images_stand _ _ _ new engine.journal r.holds.stored c now);
+        written = λ text is_before. r.written text is_before ∙ ap (λ K. Some (text ++ K)) (ap (report_from says Z H) (sym is) ∙ sym (append-nil (report_from says Z H (line rules Z H items (entry_tolds r.entries)))));
+      }
+
+  run_idle : (items : List I) (old mid new : BoardView) (engine : Engine M I) (before after : Option (List ℕ)) → mid.sent ≡ old.sent → (r : Runs rules view says Z H items mid new engine before after) → rules.pending Z (H ++ r.entries) ≡ None
+      → (tolds : List Told) → tolds_of new.sent ≡ tolds_of old.sent ++ tolds → rules.pending Z (H ++ line rules Z H items tolds) ≡ None
+  run_idle items old mid new engine before after sent r idle tolds told =
+      let all : tolds_of old.sent ++ tolds ≡ tolds_of old.sent ++ entry_tolds r.entries = sym told ∙ r.told ∙ ap (λ s. tolds_of s ++ entry_tolds r.entries) sent in
+      let same : tolds ≡ entry_tolds r.entries = append_cancel_left (tolds_of old.sent) tolds (entry_tolds r.entries) all in
+      ap (λ t. rules.pending Z (H ++ line rules Z H items t)) same ∙ ap (λ K. rules.pending Z (H ++ K)) (line_is items r.entries r.lawful r.taken) ∙ idle
+
+  -- what comes next is on the run without a crash
+  on_line : (G : List (Entry I)) (items : List I) (e : Entry I) → ComesNext rules Z G items e → (more : List Told) × IsPrefixOf (e ∷ []) (line rules Z G items more)
+  on_line G items (Item item) comes = ([], subst (λ l. IsPrefixOf (Item item ∷ []) (line rules Z G l [])) (sym comes.2) (subst (λ l. IsPrefixOf l (line rules Z G (item ∷ comes.1) [])) (line_item rules Z G item comes.0) (line_more rules Z G (item ∷ []) comes.1 [])))
+  on_line G items (Outcome told) comes = (told ∷ [], subst (λ l. IsPrefixOf l (line rules Z G items (told ∷ []))) (line_outcome rules Z G comes.0 told comes.1) (line_more rules Z G [] items (told ∷ [])))
+
+  full_at : (items : List I) (old mid new : BoardView) (engine : Engine M I) (before after : Option (List ℕ)) → mid.sent ≡ old.sent → StopsFull rules view says Z H items mid new engine before after → IsFullAt rules view Z H items old new
+  full_at items old mid new engine before after sent q =
+      let K = q.runs.entries in
+      let next = on_line (H ++ K) q.more q.next q.comes in
+      let whole : line rules Z H items (entry_tolds K ++ next.0) ≡ K ++ line rules Z (H ++ K) q.more next.0 =
+        ap (λ i. line rules Z H i (entry_tolds K ++ next.0)) (sym q.split ∙ ap (λ i. i ++ q.more) (sym q.runs.taken)) ∙ line_goes_on rules Z H K q.more next.0 q.runs.lawful in record {
+          entries = K;
+          next = q.next;
+          tolds = entry_tolds K;
+          told = q.runs.told ∙ ap (λ s. tolds_of s ++ entry_tolds K) sent;
+          more = next.0;
+          on_line = (next.1.0, append_assoc K (q.next ∷ []) next.1.0 ∙ ap (λ l. K ++ l) next.1.1 ∙ sym whole);
+          stands = subst (λ (l : List (List ℕ)). image.Stands rules.kind Z l new.octets) (append-nil (map rules.encode (H ++ K))) q.runs.holds.stored.at.stands;
+          too_much = q.too_much;
+        }
+
+module _ {I M : Type 0} (rules : Rules I) (view : M → MachineView I) (says : List ℕ → List (Entry I) → Entry I → List ℕ) (scripts : ScriptRules I) (Z : List ℕ) (H : List (Entry I)) (text : List ℕ) (old : BoardView) where
+  -- the file is not opened
+  pub performs_not : (new : BoardView) (before : Option (List ℕ)) (stop : Stop) → RunKeeps rules Z H (items_of_text scripts text H) old new → IsOpeningStop stop → (stop ≡ Unformatted → ⊥) → (stop ≡ Full → (machine : M) × (item : I) × (view machine).over item)
+      → Performs rules view says scripts Z H text old new before before (Err stop)
+  performs_not new before Unformatted keeps opening formatted over = absurd (formatted refl)
+  performs_not new before (Line number) keeps opening formatted over = absurd opening
+  performs_not new before (Unfinished id count) keeps opening formatted over = absurd opening
+  performs_not new before Input keeps opening formatted over = absurd opening
+  performs_not new before Output keeps opening formatted over = absurd opening
+  performs_not new before Disk keeps opening formatted over = record { keeps = keeps; takes = λ r. absurd r; idle = tt; number = tt; answers = λ not. tt; refuses = λ o. tt; other = λ id count e. absurd (cc e); full = λ e. absurd (cc e) }
+  performs_not new before Memory keeps opening formatted over = record { keeps = keeps; takes = λ r. absurd r; idle = tt; number = tt; answers = λ not. tt; refuses = λ o. tt; other = λ id count e. absurd (cc e); full = λ e. absurd (cc e) }
+  performs_not new before Full keeps opening formatted over = record { keeps = keeps; takes = λ r. absurd r; idle = tt; number = tt; answers = λ not. tt; refuses = λ o. tt; other = λ id count e. absurd (cc e); full = λ e. inr (over refl) }
+
+  -- the file is opened, and the script is run
+  module _ (mid new : BoardView) (engine : Engine M I) (before after : Option (List ℕ)) (first : SyncsFirst old mid (LeavesPrefix rules Z H old [])) (sent : mid.sent ≡ old.sent) (sound : IsSound new) (tells : IsTrue new.tells) where
+    pub performs : (result : Result ℕ Stop) → Plays rules view says scripts Z H text mid new engine before after result → Performs rules view says scripts Z H text old new before after result
+    performs (Ok n) plays =
+        let not : IsOther (scripts.script_of H) (said_of text) → ⊥ = λ o. (plays.refuses o).0 in
+        let q = plays.runs not in
+        let r = q.runs tt in record {
+          keeps = run_keeps rules view says Z H (items_of_text scripts text H) old mid new first sent plays.moments sound tells;
+          takes = λ t. run_takes rules view says Z H (items_of_text scripts text H) old mid new engine before after sent r;
+          idle = run_idle rules view says Z H (items_of_text scripts text H) old mid new engine before after sent r (q.idle (H ++ r.entries) r.holds);
+          number = q.number;
+          answers = λ not. (plays.runs not).answers;
+          refuses = λ o. (plays.refuses o).0;
+          other = λ id count e. absurd (cc e);
+          full = λ e. absurd (cc e);
+        }
+    performs (Err (Line number)) plays =
+        let not : IsOther (scripts.script_of H) (said_of text) → ⊥ = λ o. (plays.refuses o).0 in
+        let r = (plays.runs not).runs tt in record {
+          keeps = run_keeps rules view says Z H (items_of_text scripts text H) old mid new first sent plays.moments sound tells;
+          takes = λ t. run_takes rules view says Z H (items_of_text scripts text H) old mid new engine before after sent r;
+          idle = tt;
+          number = tt;
+          answers = λ not. (plays.runs not).answers;
+          refuses = λ o. (plays.refuses o).0;
+          other = λ id count e. absurd (cc e);
+          full = λ e. absurd (cc e);
+        }
+    performs (Err (Unfinished id count)) plays =
+        let o = plays.other id count refl in
+        let none : [] ≡ items_of_text scripts text H = sym (none_of_other scripts (scripts.script_of H) (said_of text) o) in
+        let r = subst (λ i. Runs rules view says Z H i mid new engine before after) none (plays.refuses o).1 in record {
+          keeps = run_keeps rules view says Z H (items_of_text scripts text H) old mid new first sent plays.moments sound tells;
+          takes = λ t. run_takes rules view says Z H (items_of_text scripts text H) old mid new engine before after sent r;
+          idle = tt;
+          number = tt;
+          answers = λ not. (plays.runs not).answers;
+          refuses = λ o. (plays.refuses o).0;
+          other = λ i c e. o;
+          full = λ e. absurd (cc e);
+        }
+    performs (Err Unformatted) plays = record {
+      keeps = run_keeps rules view says Z H (items_of_text scripts text H) old mid new first sent plays.moments sound tells;
+      takes = λ t. absurd t;
+      idle = tt;
+      number = tt;
+      answers = λ not. (plays.runs not).answers;
+      refuses = λ o. (plays.refuses o).0;
+      other = λ id count e. absurd (cc e);
+      full = λ e. absurd (cc e);
+    }
+    performs (Err Input) plays = record {
+      keeps = run_keeps rules view says Z H (items_of_text scripts text H) old mid new first sent plays.moments sound tells;
+      takes = λ t. absurd t;
+      idle = tt;
+      number = tt;
+      answers = λ not. (plays.runs not).answers;
+      refuses = λ o. (plays.refuses o).0;
+      other = λ id count e. absurd (cc e);
+      full = λ e. absurd (cc e);
+    }
+    performs (Err Disk) plays = record {
+      keeps = run_keeps rules view says Z H (items_of_text scripts text H) old mid new first sent plays.moments sound tells;
+      takes = λ t. absurd t;
+      idle = tt;
+      number = tt;
+      answers = λ not. (plays.runs not).answers;
+      refuses = λ o. (plays.refuses o).0;
+      other = λ id count e. absurd (cc e);
+      full = λ e. absurd (cc e);
+    }
+    performs (Err Output) plays = record {
+      keeps = run_keeps rules view says Z H (items_of_text scripts text H) old mid new first sent plays.moments sound tells;
+      takes = λ t. absurd t;
+      idle = tt;
+      number = tt;
+      answers = λ not. (plays.runs not).answers;
+      refuses = λ o. (plays.refuses o).0;
+      other = λ id count e. absurd (cc e);
+      full = λ e. absurd (cc e);
+    }
+    performs (Err Memory) plays = record {
+      keeps = run_keeps rules view says Z H (items_of_text scripts text H) old mid new first sent plays.moments sound tells;
+      takes = λ t. absurd t;
+      idle = tt;
+      number = tt;
+      answers = λ not. (plays.runs not).answers;
+      refuses = λ o. (plays.refuses o).0;
+      other = λ id count e. absurd (cc e);
+      full = λ e. absurd (cc e);
+    }
+    performs (Err Full) plays = record {
+      keeps = run_keeps rules view says Z H (items_of_text scripts text H) old mid new first sent plays.moments sound tells;
+      takes = λ t. absurd t;
+      idle = tt;
+      number = tt;
+      answers = λ not. (plays.runs not).answers;
+      refuses = λ o. (plays.refuses o).0;
+      other = λ id count e. absurd (cc e);
+      full = λ e. inl (full_at rules view says Z H (items_of_text scripts text H) old mid new engine before after sent ((plays.runs (plays.full e)).full e));
+    }
+
+pub opening_none : (A : Type 0) (stop : Stop) → IsOpeningStop stop → AnswersNone {A = A} (Err stop)
+opening_none A Unformatted opening = tt
+opening_none A Disk opening = tt
+opening_none A Full opening = tt
+opening_none A Memory opening = tt
+opening_none A (Line number) opening = absurd opening
+opening_none A (Unfinished id count) opening = absurd opening
+opening_none A Input opening = absurd opening
+opening_none A Output opening = absurd opening

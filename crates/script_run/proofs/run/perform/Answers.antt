@@ -1,0 +1,53 @@
+use Rattle.std.proofs.Common.{rules, ◌≡◌, ◌⊎◌, inl, inr, ⊎_elim, ◌≤◌, ℕ, List, [], ◌∷◌, ◌++◌, Option, Some, None, Ok, Err, Result, arith, sym, ◌∙◌, ap, subst, refl, IsTrue}
+use Rattle.pef_engine.specs.declared.entry.Entry.{Entry}
+use Rattle.pef_engine.specs.Rules.{Stands}
+use Rattle.script_run.specs.declared.stop.Stop.{Stop}
+use Rattle.script_run.specs.declared.stop.Stop.TheVariants.{Unformatted, Full, Memory}
+use Rattle.script_run.specs.Report.{says}
+use Rattle.script_run.specs.Items.{items_of_text}
+use Rattle.script_run.specs.Top.{Performs, AnswersNone}
+use Rattle.script_run.proofs.RunLemmas.{err_is, is_err}
+use Rattle.script_run.proofs.TopLemmas.{open_keeps, performs_not, performs, opening_none}
+use Rattle.script_run.proofs.run.perform.Goals as goal
+
+pub returns-in-Err-clause-performs : goal.returns-in-Err-clause-performs
+returns-in-Err-clause-performs g c = λ tells Z H text lawful stands left.
+    let rules' = g.M.Machine.rules in
+    let view' = g.M.Machine.view in
+    let scripts' = g.M.Scripted.scripts in
+    let says' = says rules' scripts' in
+    let view = g.B.Board.view in
+    let written = g.K.Sink.written in
+    let opened = c.in-Err.ensures.opened tells Z H lawful stands in
+    let formatted : c.stop_at_opening.result ≡ Unformatted → ⊥ = λ e. ⊎_elim (λ u. opened.formatted (is_err u)) (λ u. opened.unbroken u.0 (is_err u.1)) (c.stop_at_opening.ensures.unformatted e) in
+    performs_not rules' view' says' scripts' Z H text (view c.args.board.now) (view c.open.new.board) (written c.args.out.now) c.stop_at_opening.result
+      (open_keeps rules' view' says' Z H (items_of_text scripts' text H) (view c.args.board.now) (view c.open.new.board) (g.met.B.Board.sound c.open.new.board) tells opened.sent opened.octets stands opened.any_moment)
+      c.stop_at_opening.ensures.opening formatted (λ e. c.in-Err.ensures.full (is_err (c.stop_at_opening.ensures.full.0 e)))
+
+pub returns-in-Err-clause-unformatted : goal.returns-in-Err-clause-unformatted
+returns-in-Err-clause-unformatted g c = λ err tells Z H lawful stands.
+    let opened = c.in-Err.ensures.opened tells Z H lawful stands in
+    let formatted : c.stop_at_opening.result ≡ Unformatted → ⊥ = λ e. ⊎_elim (λ u. opened.formatted (is_err u)) (λ u. opened.unbroken u.0 (is_err u.1)) (c.stop_at_opening.ensures.unformatted e) in
+    formatted (err_is err)
+
+pub returns-in-Err-clause-nothing : goal.returns-in-Err-clause-nothing
+returns-in-Err-clause-nothing g c = λ tells none. (opening_none ℕ c.stop_at_opening.result c.stop_at_opening.ensures.opening, c.in-Err.ensures.octets tells, c.in-Err.ensures.run.sent tells)
+
+pub returns-clause-performs : goal.returns-clause-performs
+returns-clause-performs g c = λ tells Z H text lawful stands left.
+    let rules' = g.M.Machine.rules in
+    let view' = g.M.Machine.view in
+    let scripts' = g.M.Scripted.scripts in
+    let says' = says rules' scripts' in
+    let view = g.B.Board.view in
+    let written = g.K.Sink.written in
+    let back = c.play.ensures.tells tells in
+    let opened = c.in-Ok.ensures.opened back Z H lawful stands in
+    performs rules' view' says' scripts' Z H text (view c.args.board.now) (view c.open.new.board) (view c.play.new.board) c.play.new.engine (written c.args.out.now) (written c.play.new.out) opened.synced opened.sent
+      (g.met.B.Board.sound c.play.new.board) tells c.play.result (c.play.ensures.plays tells Z H text opened.holds left)
+
+pub returns-clause-nothing : goal.returns-clause-nothing
+returns-clause-nothing g c = λ tells none.
+    let some = c.in-Ok.ensures.stands (c.play.ensures.tells tells) in
+    absurd (none some.0 some.1 some.2 some.3)
+
