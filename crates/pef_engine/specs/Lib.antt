@@ -3,3 +3,4 @@ pub mod MachineView
 pub mod Lines
 pub mod Lives
 pub mod Engine
+pub mod Scripts

@@ -8,6 +8,7 @@ mod laws;
 mod machine;
 mod replay;
 mod script;
+mod scripted;
 
 pub use engine::Engine;
 pub use entry::Entry;
@@ -15,3 +16,4 @@ pub use faults::{EngineFault, MachineFault};
 pub use laws::lives_law;
 pub use machine::Machine;
 pub use script::Script;
+pub use scripted::{ReportLine, Scripted};

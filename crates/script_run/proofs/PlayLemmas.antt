@@ -21,7 +21,7 @@ use Rattle.script_run.specs.declared.stop.Stop.{Stop}
 use Rattle.script_run.specs.declared.stop.Stop.TheVariants.{Unformatted, Line, Unfinished, Input, Disk, Output, Full, Memory}
 use Rattle.script_run.specs.declared.course.Course.{Course}
 use Rattle.script_run.specs.declared.course.Course.TheVariants.{Over, GoesOn, Begins}
-use Rattle.script_run.specs.Scripts.{ScriptRules, IsScripted, Awaits, IsUnfinished, IsWithin}
+use Rattle.pef_engine.specs.Scripts.{ScriptRules, IsScripted, Awaits, IsUnfinished, IsWithin}
 use Rattle.script_run.specs.Items.{is_same, IsOther, items_after, items_of_text, rest_of}
 use Rattle.script_run.specs.Run.{Runs, StopsFull, RunsGiven, IsTaken, Answers, IsIdle, MovesOn, IsReadyFor}
 use Rattle.script_run.specs.Top.{IsCourse, IsAnother, GivesCourse, GivesHead, TakesCourse, items_on, Plays}

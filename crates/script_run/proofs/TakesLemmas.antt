@@ -16,7 +16,7 @@ use Rattle.pef_engine.specs.Lines.{LeavesPrefix}
 use Rattle.pef_engine.specs.Engine.{Holds}
 use Rattle.script_run.specs.declared.stop.Stop.{Stop}
 use Rattle.script_run.specs.declared.stop.Stop.TheVariants.{Unformatted, Line, Unfinished, Input, Disk, Output, Full, Memory}
-use Rattle.script_run.specs.Scripts.{ScriptRules}
+use Rattle.pef_engine.specs.Scripts.{ScriptRules}
 use Rattle.script_run.specs.Items.{rest_of, closing_of}
 use Rattle.script_run.specs.Run.{Runs, StopsFull, IsIdle, IsTaken, Answers, RunsGiven, Takes, IsStepStop}
 use Rattle.script_run.proofs.RunLemmas.{runs_start, runs_compose, moments_of, moments_after}

@@ -19,7 +19,7 @@ use Rattle.pef_engine.proofs.Moments.{leaves_start}
 use Rattle.script_text.specs.Script.{said_of, bad_line}
 use Rattle.script_run.specs.declared.stop.Stop.{Stop}
 use Rattle.script_run.specs.declared.stop.Stop.TheVariants.{Unformatted, Line, Unfinished, Input, Disk, Output, Full, Memory}
-use Rattle.script_run.specs.Scripts.{ScriptRules}
+use Rattle.pef_engine.specs.Scripts.{ScriptRules}
 use Rattle.script_run.specs.Items.{IsOther, items_of_text}
 use Rattle.script_run.specs.Report.{report_from}
 use Rattle.script_run.specs.Run.{Runs, StopsFull, ComesNext, RunsGiven, Answers}

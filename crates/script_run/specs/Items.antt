@@ -3,7 +3,7 @@ use Rattle.std.specs.Prelude.{◌≡◌, ⊤, ℕ, ◌+◌, ◌&&◌, Bool, true
 use Rattle.pef_engine.specs.declared.entry.Entry.{Entry}
 use Rattle.pef_engine.specs.declared.script.Script.{Script}
 use Rattle.script_text.specs.Script.{Given, Said, said_of, bad_line}
-use Rattle.script_run.specs.Scripts.{ScriptRules}
+use Rattle.pef_engine.specs.Scripts.{ScriptRules}
 
 -- they have one id and one count
 abbrev pub is_same : Script → ℕ → ℕ → Bool

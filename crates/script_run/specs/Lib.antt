@@ -1,4 +1,3 @@
-pub mod Scripts
 pub mod Items
 pub mod Report
 pub mod Run

@@ -12,7 +12,7 @@ use Rattle.board_core.specs.declared.step.Told.TheVariants.{Done, Failed}
 use Rattle.pef_engine.specs.declared.entry.Entry.{Entry}
 use Rattle.pef_engine.specs.declared.entry.Entry.TheVariants.{Item, Outcome}
 use Rattle.pef_engine.specs.Rules.{Rules}
-use Rattle.script_run.specs.Scripts.{ScriptRules}
+use Rattle.pef_engine.specs.Scripts.{ScriptRules}
 
 abbrev pub line_end : List ℕ
 line_end = 10 ∷ []

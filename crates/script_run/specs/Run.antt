@@ -16,7 +16,7 @@ use Rattle.script_text.specs.Reading.{HasLeft}
 use Rattle.script_text.specs.Script.{Given, given}
 use Rattle.script_run.specs.declared.stop.Stop.{Stop}
 use Rattle.script_run.specs.declared.stop.Stop.TheVariants.{Unformatted, Line, Unfinished, Input, Disk, Output, Full, Memory}
-use Rattle.script_run.specs.Scripts.{ScriptRules, Awaits}
+use Rattle.pef_engine.specs.Scripts.{ScriptRules, Awaits}
 use Rattle.script_run.specs.Items.{rest_of}
 use Rattle.script_run.specs.Report.{report_from}
 

@@ -18,7 +18,7 @@ use Rattle.script_run.specs.declared.course.Course.{Course}
 use Rattle.script_run.specs.declared.course.Course.TheVariants.{Over, GoesOn, Begins}
 use Rattle.script_run.specs.declared.stop.Stop.{Stop}
 use Rattle.script_run.specs.declared.stop.Stop.TheVariants.{Unformatted, Line, Unfinished, Input, Disk, Output, Full, Memory}
-use Rattle.script_run.specs.Scripts.{ScriptRules, IsUnfinished}
+use Rattle.pef_engine.specs.Scripts.{ScriptRules, IsUnfinished}
 use Rattle.script_run.specs.Items.{IsOther, is_same, rest_of, items_of_text}
 use Rattle.script_run.specs.Report.{report_from, line_end, ok_line, bad_line_line, unfinished_line}
 use Rattle.script_run.specs.Run.{IsTooMuch, Runs, RunsGiven, Answers}

@@ -6,11 +6,9 @@ mod head;
 mod playing;
 mod report;
 mod run;
-mod scripted;
 mod settling;
 mod stop;
 mod taking;
 
 pub use run::{perform, say_ok, say_stop, status};
-pub use scripted::{ReportLine, Scripted};
 pub use stop::Stop;

@@ -12,7 +12,7 @@ ghost use Rattle.script_run.specs.Top.{Plays, TakesCourse, items_on};
 
 use crate::course::{course_of, Course};
 use crate::head::{read_head, Head};
-use crate::scripted::Scripted;
+use pef_engine::Scripted;
 use crate::settling::{settle_and_say, take_one};
 use crate::stop::Stop;
 use crate::taking::{pass_over, take_lines};

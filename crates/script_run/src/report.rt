@@ -7,7 +7,7 @@ ghost use Rattle.pef_engine.specs.declared.entry.Entry.{Entry};
 ghost use Rattle.pef_engine.specs.Rules.{Lawful, IsItem};
 ghost use Rattle.script_run.specs.Report.{act_word, told_word, address_text, outcome_line, says};
 
-use crate::scripted::{ReportLine, Scripted};
+use pef_engine::{ReportLine, Scripted};
 use crate::stop::Stop;
 use board_core::{Act, Address, Octets, Sink, Step, Told};
 use hex::encode_to_slice;

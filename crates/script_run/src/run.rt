@@ -9,7 +9,7 @@ ghost use Rattle.script_run.specs.Top.{Performs, AnswersNone, IsOpeningStop, las
 
 use crate::playing::play;
 use crate::report::{add, number, put};
-use crate::scripted::{ReportLine, Scripted};
+use pef_engine::{ReportLine, Scripted};
 use crate::stop::Stop;
 use board_core::{Board, Sink, Source};
 use hex::encode_to_slice;

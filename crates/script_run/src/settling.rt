@@ -10,7 +10,7 @@ ghost use Rattle.script_run.specs.Report.{says};
 ghost use Rattle.script_run.specs.Run.{Runs, StopsFull, MovesOn, IsStepStop};
 
 use crate::report::{say_outcome, say_taken};
-use crate::scripted::Scripted;
+use pef_engine::Scripted;
 use crate::stop::{stop_of, Stop};
 use board_core::{Board, Sink};
 use pef_engine::{Engine, Entry};

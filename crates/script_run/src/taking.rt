@@ -10,7 +10,7 @@ ghost use Rattle.script_run.specs.Items.{rest_of};
 ghost use Rattle.script_run.specs.Report.{says};
 ghost use Rattle.script_run.specs.Run.{RunsGiven, IsReadyFor, Answers};
 
-use crate::scripted::Scripted;
+use pef_engine::Scripted;
 use crate::settling::take_one;
 use crate::stop::Stop;
 use board_core::{Board, Sink, Source};

@@ -3,10 +3,11 @@ ghost use Rattle.std.specs.Prelude.{◌≡◌, ℕ, List, [], ◌∷◌, ◌++�
 ghost use Rattle.pef_engine.specs.declared.entry.Entry.{Entry};
 ghost use Rattle.pef_engine.specs.declared.entry.Entry.TheVariants.{Item};
 ghost use Rattle.pef_engine.specs.Rules.{Lawful};
-ghost use Rattle.script_run.specs.Scripts.{ScriptRules, IsScripted};
+ghost use Rattle.pef_engine.specs.Scripts.{ScriptRules, IsScripted};
 
+use crate::machine::Machine;
+use crate::script::Script;
 use board_core::Bytes;
-use pef_engine::{Machine, Script};
 
 /// A line of the report, with its end.
 pub type ReportLine = Bytes<1200>;
