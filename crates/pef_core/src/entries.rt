@@ -54,9 +54,19 @@ pub(crate) fn decode(octets: &[u8]) -> Option<Entry<Item>>
 {
     match octets {
         [EVENT, event @ ..] => Some(Entry::Item(Item::Event(<[u8; 16]>::try_from(event).ok()?))),
-        [OPEN, i, j, k, l, c, d, e, f] => Some(Entry::Item(Item::Open {
-            id: u32::from_le_bytes([*i, *j, *k, *l]),
-            count: u32::from_le_bytes([*c, *d, *e, *f]),
+        [
+            OPEN,
+            id_0,
+            id_1,
+            id_2,
+            id_3,
+            count_0,
+            count_1,
+            count_2,
+            count_3,
+        ] => Some(Entry::Item(Item::Open {
+            id: u32::from_le_bytes([*id_0, *id_1, *id_2, *id_3]),
+            count: u32::from_le_bytes([*count_0, *count_1, *count_2, *count_3]),
         })),
         [CLOSE] => Some(Entry::Item(Item::Close)),
         [OUTCOME, DONE] => Some(Entry::Outcome(Told::Done)),

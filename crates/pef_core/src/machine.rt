@@ -12,6 +12,13 @@ use filter_table::Filter;
 use pef_engine::{Entry, Machine, MachineFault};
 use std::alloc::{AllocError, Global};
 
+/// The kind of a controller's state file.
+const KIND: u8 = 1;
+/// How many octets of settings it has.
+const SETTINGS: usize = 55;
+/// Where the filter stands among them.
+const FILTER: usize = 35;
+
 /// A controller's settings are 55 octets, and the last 20 of them are its filter.
 impl Machine for Controller {
     type Item = Item;
@@ -31,16 +38,16 @@ impl Machine for Controller {
     ghost some_octet = { some_octet };
 
     fn kind() -> u8 {
-        1
+        KIND
     }
 
     fn settings_length() -> usize {
-        55
+        SETTINGS
     }
 
     fn fresh(alloc: Global, settings: &[u8]) -> Result<Self, AllocError> {
         let mut filter = [0; 20];
-        filter.copy_from_slice(&settings[35..]);
+        filter.copy_from_slice(&settings[FILTER..]);
         Controller::new(alloc, Filter::read(&filter))
     }
 

@@ -14,9 +14,8 @@ pub(crate) fn may_come(script: Option<Script>, item: Item) -> bool
     ensures { IsTrue result ↔ (MayCome script item × IsItem item) }
 {
     match item {
-        Item::Event(octets) => script.is_none_or(|script| script.closed
-            || script.taken < script.count),
-        Item::Open { id, count } => script.is_none_or(|script| script.closed) && count <= ITEMS,
+        Item::Event(_) => script.is_none_or(|script| script.closed || script.taken < script.count),
+        Item::Open { count, .. } => script.is_none_or(|script| script.closed) && count <= ITEMS,
         Item::Close => script.is_some_and(|script| !script.closed && script.taken == script.count),
     }
 }
