@@ -20,7 +20,7 @@ use Rattle.pef_core.specs.Histories.{asking, step_of}
 use Rattle.pef_core.specs.View.{IsMark, ShowsController, AllowedBy, Continues, start_of}
 use Rattle.pef_core.proofs.Places.{counts_one}
 
-note_behind_push : (log : List (List ℕ)) (note : Note) (H : List (Entry Item)) (entry : Entry Item)
+pub note_behind_push : (log : List (List ℕ)) (note : Note) (H : List (Entry Item)) (entry : Entry Item)
     → note_behind log note (H ++ entry ∷ []) ≡ note_with (fold log_with log H) (note_behind log note H) entry
 note_behind_push log note [] entry = refl
 note_behind_push log note (first ∷ H) entry = note_behind_push (log_with log first) (note_with log note first) H entry

@@ -4,3 +4,5 @@ pub mod History
 pub mod Histories
 pub mod View
 pub mod Laws
+pub mod Report
+pub mod ScriptLaws

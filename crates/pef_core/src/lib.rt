@@ -8,6 +8,7 @@ mod events;
 mod item;
 mod machine;
 mod note;
+mod report;
 mod scripts;
 
 pub use controller::Controller;

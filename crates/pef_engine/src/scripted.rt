@@ -18,7 +18,7 @@ pub trait Scripted: Machine {
     ghost scripts: { ScriptRules Self.Item };
 
     /// The script that was opened last.
-    fn script(&self) -> Option<Script>
+    fn opened(&self) -> Option<Script>
         ensures { (Z : List ℕ) (H : List (Entry Self.Item)) → Lawful Self.rules Z H → (Self.view self.now).shows Z H → result ≡ scripts.script_of H };
 
     /// The item that opens a script of `count` items.

@@ -57,8 +57,8 @@ module _ {I M : Type 0} (rules : Rules I) (view : M → MachineView I) (says : L
       → (stop ≡ Full → StopsFull rules view says Z H items start now engine before after) → items ++ rest ≡ all → RunsGiven rules view says Z H all bad start now engine before after (Err stop)
   first_fails items rest all bad start now engine before after stop fault m full is =
       fault_given rules view says Z H all bad start now engine before after stop fault
-        (leaves_map start now (LeavesPrefix rules Z H start items) (LeavesPrefix rules Z H start all) (λ left p. subst (λ i. LeavesPrefix rules Z H start i left) is (more_items rules view says Z H start items rest left p)) m)
-        (λ e. full_more items rest all start now engine before after (full e) is)
+      (leaves_map start now (LeavesPrefix rules Z H start items) (LeavesPrefix rules Z H start all) (λ left p. subst (λ i. LeavesPrefix rules Z H start i left) is (more_items rules view says Z H start items rest left p)) m)
+      (λ e. full_more items rest all start now engine before after (full e) is)
 
   -- what is run behind some items
   pub given_behind : (items more all : List I) (bad : Option ℕ) (start now new : BoardView) (engine next : Engine M I) (one two three : Option (List ℕ)) (n m : Result ℕ Stop) (p : Runs rules view says Z H items start now engine one two)
@@ -179,12 +179,11 @@ module _ {I : Type 0} (rules : Rules I) (scripts : ScriptRules I) (scripted : Is
     -- a script may be opened
     pub opening_allowed : (item : I) → item ≡ scripts.opening id count → rules.is_entry (Item item) → count ≤ 1000000 → old.allowed (Item item)
     opening_allowed item is entry within =
-        (agrees.allowed t.settings t.history (Item item) t.lawful t.shows).1
-          (
-            sym (agrees.due t.settings t.history t.lawful t.shows) ∙ idle,
-            subst (λ i. rules.may_take t.settings t.history i) (sym is)
+        (agrees.allowed t.settings t.history (Item item) t.lawful t.shows).1 (
+          sym (agrees.due t.settings t.history t.lawful t.shows) ∙ idle,
+          subst (λ i. rules.may_take t.settings t.history i) (sym is)
               (scripted.opening_may t.settings t.history id count (subst (λ i. rules.is_entry (Item i)) is entry) (none_open (scripts.script_of t.history) id count t.stands) within),
-          )
+        )
 
     -- and then none of its items was taken
     pub ready_opened : (new : MachineView I) (item : I) → item ≡ scripts.opening id count → MovesOn rules old new (item ∷ []) → new.due ≡ None → IsReadyFor rules scripts new count 0

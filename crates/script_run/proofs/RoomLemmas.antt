@@ -23,8 +23,8 @@ module _ {I M : Type 0} (rules : Rules I) (view : M → MachineView I) (Z : List
       let front = header rules.kind Z ++ blocks (map rules.encode H) in
       let one = blocks (rules.encode e ∷ []) in
       let split : header rules.kind Z ++ blocks (map rules.encode (H ++ e ∷ [])) ≡ front ++ one =
-        ap (λ l. header rules.kind Z ++ blocks l) (map-append rules.encode H (e ∷ [])) ∙ ap (λ l. header rules.kind Z ++ l) (blocks-append (map rules.encode H) (rules.encode e ∷ []))
-        ∙ sym (append_assoc (header rules.kind Z) (blocks (map rules.encode H)) one) in
+      ap (λ l. header rules.kind Z ++ blocks l) (map-append rules.encode H (e ∷ [])) ∙ ap (λ l. header rules.kind Z ++ l) (blocks-append (map rules.encode H) (rules.encode e ∷ []))
+      ∙ sym (append_assoc (header rules.kind Z) (blocks (map rules.encode H)) one) in
       let of_one : length one ≡ length (rules.encode e) + 3 = omega (arith, ap length (append-nil (rules.encode e))) in
       ap length split ∙ length-append front one ∙ omega (arith, of_one, holds.stored.at.place)
 

@@ -81,18 +81,21 @@ module _ {I M : Type 0} (rules : Rules I) (view : M → MachineView I) (line : L
   pub more_items : (H : List (Entry I)) (start : BoardView) (items more : List I) (left : Left) → LeavesPrefix rules Z H start items left → LeavesPrefix rules Z H start (items ++ more) left
   more_items H start items more left here =
       leaves_behind rules Z H [] start start [] (items ++ more) items more left tt refl (sym (append-nil (steps_of start.sent))) (sym (append-nil (tolds_of start.sent)))
-        (ap (prescribed rules Z) (append-nil H) ∙ sym (append-nil (prescribed rules Z H))) (subst (λ h. LeavesPrefix rules Z h start items left) (sym (append-nil H)) here)
+      (ap (prescribed rules Z) (append-nil H) ∙ sym (append-nil (prescribed rules Z H))) (subst (λ h. LeavesPrefix rules Z h start items left) (sym (append-nil H)) here)
 
   -- the moments of one call more
   pub moments_behind : (H : List (Entry I)) (items more : List I) (start now new : BoardView) (engine : Engine M I) (before after : Option (List ℕ)) (p : Runs rules view line Z H items start now engine before after)
       → LeavesOnly now new (LeavesPrefix rules Z (H ++ p.entries) now more) → LeavesOnly start new (LeavesPrefix rules Z H start (items ++ more))
   moments_behind H items more start now new engine before after p later =
       leaves_compose rules Z start now new (LeavesPrefix rules Z H start (items ++ more)) (LeavesPrefix rules Z (H ++ p.entries) now more)
-        (record { later = p.moments.later; each = λ left since. more_items H start items more left (p.moments.each left since);
-          before = λ t left le since. ⊎_elim inl (λ q. inr (more_items H start items more left q)) (p.moments.before t left le since) })
-        later
-        (λ left q. leaves_behind rules Z H p.entries start now p.steps (items ++ more) more [] left p.lawful
-          (ap (λ l. l ++ more) (sym p.taken) ∙ ap (λ l. entry_items p.entries ++ l) (sym (append-nil more))) p.issued p.told p.prescribes q)
+      (record {
+        later = p.moments.later;
+        each = λ left since. more_items H start items more left (p.moments.each left since);
+        before = λ t left le since. ⊎_elim inl (λ q. inr (more_items H start items more left q)) (p.moments.before t left le since);
+      })
+      later
+      (λ left q. leaves_behind rules Z H p.entries start now p.steps (items ++ more) more [] left p.lawful
+      (ap (λ l. l ++ more) (sym p.taken) ∙ ap (λ l. entry_items p.entries ++ l) (sym (append-nil more))) p.issued p.told p.prescribes q)
 
   -- one run behind another
   pub runs_compose : (H : List (Entry I)) (items more : List I) (start now new : BoardView) (engine next : Engine M I) (one two three : Option (List ℕ)) (p : Runs rules view line Z H items start now engine one two)
@@ -108,7 +111,7 @@ module _ {I M : Type 0} (rules : Rules I) (view : M → MachineView I) (line : L
     prescribes = ap (prescribed rules Z) (sym (append_assoc H p.entries q.entries)) ∙ q.prescribes ∙ ap (λ l. l ++ q.steps) p.prescribes ∙ append_assoc (prescribed rules Z H) p.steps q.steps;
     moments = moments_behind H items more start now new engine one two p q.moments;
     written = λ old is. q.written (old ++ report_from line Z H p.entries) (p.written old is)
-      ∙ ap Some (append_assoc old (report_from line Z H p.entries) (report_from line Z (H ++ p.entries) q.entries) ∙ ap (λ l. old ++ l) (sym (report-append H p.entries q.entries)));
+        ∙ ap Some (append_assoc old (report_from line Z H p.entries) (report_from line Z (H ++ p.entries) q.entries) ∙ ap (λ l. old ++ l) (sym (report-append H p.entries q.entries)));
   }
 
   -- one outcome is stored and said

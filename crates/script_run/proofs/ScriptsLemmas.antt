@@ -35,6 +35,7 @@ module _ {I : Type 0} (rules : Rules I) (scripts : ScriptRules I) (scripted : Is
     where
       rest_none : {A : Type 0} (first item : A) (items : List A) → first ∷ items ≡ item ∷ [] → items ≡ []
       rest_none first item items e = cc
+
       first_is : {A : Type 0} (first item : A) (items : List A) → first ∷ items ≡ item ∷ [] → first ≡ item
       first_is first item items e = cc
 
@@ -45,15 +46,19 @@ module _ {I : Type 0} (rules : Rules I) (scripts : ScriptRules I) (scripted : Is
     -- the next event may come, and so may the end behind the last
     pub event_allowed : (item : I) (octets : List ℕ) → item ≡ scripts.event octets → rules.is_entry (Item item) → n < count → old.allowed (Item item)
     event_allowed item octets is entry within =
-        (agrees.allowed ready.settings ready.history (Item item) ready.lawful ready.shows).1
-          (idle_there, subst (λ i. rules.may_take ready.settings ready.history i) (sym is)
-            (scripted.event_may ready.settings ready.history octets count n (subst (λ i. rules.is_entry (Item i)) is entry) ready.awaits within))
+        (agrees.allowed ready.settings ready.history (Item item) ready.lawful ready.shows).1 (
+          idle_there,
+          subst (λ i. rules.may_take ready.settings ready.history i) (sym is)
+              (scripted.event_may ready.settings ready.history octets count n (subst (λ i. rules.is_entry (Item i)) is entry) ready.awaits within),
+        )
 
     pub closing_allowed : (item : I) → item ≡ scripts.closing → n ≡ count → old.allowed (Item item)
     closing_allowed item is all =
-        (agrees.allowed ready.settings ready.history (Item item) ready.lawful ready.shows).1
-          (idle_there, subst (λ i. rules.may_take ready.settings ready.history i) (sym is)
-            (scripted.closing_may ready.settings ready.history count (subst (λ k. Awaits (scripts.script_of ready.history) count k) all ready.awaits)))
+        (agrees.allowed ready.settings ready.history (Item item) ready.lawful ready.shows).1 (
+          idle_there,
+          subst (λ i. rules.may_take ready.settings ready.history i) (sym is)
+              (scripted.closing_may ready.settings ready.history count (subst (λ k. Awaits (scripts.script_of ready.history) count k) all ready.awaits)),
+        )
 
     -- an event was taken and settled
     pub ready_more : (new : MachineView I) (item : I) (octets : List ℕ) → item ≡ scripts.event octets → MovesOn rules old new (item ∷ []) → new.due ≡ None → IsReadyFor rules scripts new count (n + 1)

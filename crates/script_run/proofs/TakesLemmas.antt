@@ -151,7 +151,7 @@ module _ {I M : Type 0} (rules : Rules I) (view : M → MachineView I) (says : L
         rest = gives.rest;
         unread = gives.left;
         split = append_assoc t.so_far (scripts.event octets ∷ []) (rest_of scripts skip (given (lines_of gives.rest) (left - 1) (number + 1)))
-          ∙ event_first now engine one two held next source later skip left number items octets t gives more none;
+            ∙ event_first now engine one two held next source later skip left number items octets t gives more none;
         bad = sym (ap (λ (g : Given). g.bad) e) ∙ t.bad;
         counted = omega (arith, t.counted, length-append t.so_far (scripts.event octets ∷ []));
       }
@@ -193,8 +193,8 @@ module _ {I M : Type 0} (rules : Rules I) (view : M → MachineView I) (says : L
       let rest = rest_of scripts skip (given (lines_of gives.rest) (left - 1) (number + 1)) in
       let is = event_first now engine one two held next source later skip left number items octets t gives more none in
       fault_text new after_it one three stop (step_fault stop step)
-        (moments_after rules view says Z H t.so_far (scripts.event octets ∷ []) rest all start now new engine one two t.runs m is)
-        (λ e. full_behind rules view says Z H t.so_far (scripts.event octets ∷ []) rest all start now new engine after_it one two three t.runs (full e) is)
+      (moments_after rules view says Z H t.so_far (scripts.event octets ∷ []) rest all start now new engine one two t.runs m is)
+      (λ e. full_behind rules view says Z H t.so_far (scripts.event octets ∷ []) rest all start now new engine after_it one two three t.runs (full e) is)
 
   close_is : (now : BoardView) (engine : Engine M I) (before after : Option (List ℕ)) (held next : List ℕ) (source later : Option (List ℕ)) (skip left number items : ℕ)
       → (t : Takes rules view says scripts Z H text count taken start now engine before after held source skip left number items) → GivesForm t.rest next later (Some End) → left ≡ 0 → t.so_far ++ scripts.closing ∷ [] ≡ all
@@ -226,5 +226,5 @@ module _ {I M : Type 0} (rules : Rules I) (view : M → MachineView I) (says : L
   close_fails now new engine after_it one two three held next source later skip left number items stop t gives none step m full =
       let is = close_is now engine one two held next source later skip left number items t gives none in
       fault_text new after_it one three stop (step_fault stop step)
-        (moments_after rules view says Z H t.so_far (scripts.closing ∷ []) [] all start now new engine one two t.runs m is)
-        (λ e. full_behind rules view says Z H t.so_far (scripts.closing ∷ []) [] all start now new engine after_it one two three t.runs (full e) is)
+      (moments_after rules view says Z H t.so_far (scripts.closing ∷ []) [] all start now new engine one two t.runs m is)
+      (λ e. full_behind rules view says Z H t.so_far (scripts.closing ∷ []) [] all start now new engine after_it one two three t.runs (full e) is)

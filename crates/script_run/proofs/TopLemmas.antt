@@ -56,9 +56,9 @@ module _ {I M : Type 0} (rules : Rules I) (view : M → MachineView I) (says : L
       → RunKeeps rules Z H items old new
   run_keeps items old mid new first sent later sound tells = record {
     moments = inr (syncs_then old mid new (LeavesPrefix rules Z H old []) (LeavesPrefix rules Z H mid items) (LeavesPrefix rules Z H old items) first later
-      (λ left p. more_items rules view says Z H old [] items left p) (λ left q. same_start items old mid left sent q));
+        (λ left p. more_items rules view says Z H old [] items left p) (λ left q. same_start items old mid left sent q));
     returned = same_start items old mid (ReturnLeft new) sent (later.each (ReturnLeft new)
-      (sound.counts_now tells mid.moment (ReturnLeft new) later.later (record { image = sound.is_image tells; issued = refl; told = refl })));
+        (sound.counts_now tells mid.moment (ReturnLeft new) later.later (record { image = sound.is_image tells; issued = refl; told = refl })));
   }
 
   -- the line of a run that took all items and left nothing pending is its entries
@@ -72,9 +72,14 @@ module _ {I M : Type 0} (rules : Rules I) (view : M → MachineView I) (says : L
       → RunKeeps rules Z H items old new
   open_keeps items old new sound tells sent octets stands moments = record {
     moments = ⊎_elim inl
-      (λ s. inr (record { synced = s.synced; after_start = s.after_start; by_now = s.by_now; until = λ c since. ⊎_elim inl (λ later. inr (more_items rules view says Z H old [] items c (s.since c later))) (s.until c since);
-        since = λ c since. more_items rules view says Z H old [] items c (s.since c since) }))
-      moments;
+        (λ s. inr (record {
+          synced = s.synced;
+          after_start = s.after_start;
+          by_now = s.by_now;
+          until = λ c since. ⊎_elim inl (λ later. inr (more_items rules view says Z H old [] items c (s.since c later))) (s.until c since);
+          since = λ c since. more_items rules view says Z H old [] items c (s.since c since);
+        }))
+        moments;
     returned = leaves_start rules Z H old items (ReturnLeft new) (record { issued = ap steps_of sent; told = ap tolds_of sent }) (subst (Stands rules Z H) (sym octets) stands);
   }
 
@@ -106,16 +111,16 @@ module _ {I M : Type 0} (rules : Rules I) (view : M → MachineView I) (says : L
       let K = q.runs.entries in
       let next = on_line (H ++ K) q.more q.next q.comes in
       let whole : line rules Z H items (entry_tolds K ++ next.0) ≡ K ++ line rules Z (H ++ K) q.more next.0 =
-        ap (λ i. line rules Z H i (entry_tolds K ++ next.0)) (sym q.split ∙ ap (λ i. i ++ q.more) (sym q.runs.taken)) ∙ line_goes_on rules Z H K q.more next.0 q.runs.lawful in record {
-          entries = K;
-          next = q.next;
-          tolds = entry_tolds K;
-          told = q.runs.told ∙ ap (λ s. tolds_of s ++ entry_tolds K) sent;
-          more = next.0;
-          on_line = (next.1.0, append_assoc K (q.next ∷ []) next.1.0 ∙ ap (λ l. K ++ l) next.1.1 ∙ sym whole);
-          stands = subst (λ (l : List (List ℕ)). image.Stands rules.kind Z l new.octets) (append-nil (map rules.encode (H ++ K))) q.runs.holds.stored.at.stands;
-          too_much = q.too_much;
-        }
+      ap (λ i. line rules Z H i (entry_tolds K ++ next.0)) (sym q.split ∙ ap (λ i. i ++ q.more) (sym q.runs.taken)) ∙ line_goes_on rules Z H K q.more next.0 q.runs.lawful in record {
+        entries = K;
+        next = q.next;
+        tolds = entry_tolds K;
+        told = q.runs.told ∙ ap (λ s. tolds_of s ++ entry_tolds K) sent;
+        more = next.0;
+        on_line = (next.1.0, append_assoc K (q.next ∷ []) next.1.0 ∙ ap (λ l. K ++ l) next.1.1 ∙ sym whole);
+        stands = subst (λ (l : List (List ℕ)). image.Stands rules.kind Z l new.octets) (append-nil (map rules.encode (H ++ K))) q.runs.holds.stored.at.stands;
+        too_much = q.too_much;
+      }
 
 module _ {I M : Type 0} (rules : Rules I) (view : M → MachineView I) (says : List ℕ → List (Entry I) → Entry I → List ℕ) (scripts : ScriptRules I) (Z : List ℕ) (H : List (Entry I)) (text : List ℕ) (old : BoardView) where
   -- the file is not opened

@@ -29,7 +29,9 @@ pub(crate) fn course_of(script: &Option<Script>, id: u32, count: u32) -> Result<
             id: script.id,
             count: script.count,
         }),
-        (false, true) => Ok(Course::GoesOn { taken: script.taken }),
+        (false, true) => Ok(Course::GoesOn {
+            taken: script.taken,
+        }),
         (true, true) => Ok(Course::Over),
         (true, false) => Ok(Course::Begins),
     }

@@ -10,18 +10,22 @@ ghost use Rattle.script_run.specs.Report.{says};
 ghost use Rattle.script_run.specs.Run.{RunsGiven, Answers};
 ghost use Rattle.script_run.specs.Top.{Plays, TakesCourse, items_on};
 
-use crate::course::{course_of, Course};
-use crate::head::{read_head, Head};
-use pef_engine::Scripted;
+use crate::course::{Course, course_of};
+use crate::head::{Head, read_head};
 use crate::settling::{settle_and_say, take_one};
 use crate::stop::Stop;
 use crate::taking::{pass_over, take_lines};
 use board_core::{Board, Sink, Source};
-use pef_engine::Engine;
+use pef_engine::{Engine, Scripted};
 use script_text::Reader;
 
 /// Runs the script that the source gives. Answers how many items were taken.
-pub(crate) fn play<M: Scripted, B: Board, S: Source, K: Sink>(engine: &mut Engine<M>, board: &mut B, source: &mut S, out: &mut K) -> Result<u32, Stop>
+pub(crate) fn play<M: Scripted, B: Board, S: Source, K: Sink>(
+    engine: &mut Engine<M>,
+    board: &mut B,
+    source: &mut S,
+    out: &mut K,
+) -> Result<u32, Stop>
     requires live { IsLive engine.old }
     requires place { HasPlace (B.view board.old) engine.old }
     requires shows { ShowsSome M.rules (M.view engine.old.machine) }
@@ -41,7 +45,7 @@ pub(crate) fn play<M: Scripted, B: Board, S: Source, K: Sink>(engine: &mut Engin
         Ok(head) => head,
         Err(stop) => return Err(stop),
     };
-    let script = engine.machine().script();
+    let script = engine.machine().opened();
     let course = match course_of(&script, head.id, head.count) {
         Ok(course) => course,
         Err(stop) => return Err(stop),
@@ -50,7 +54,15 @@ pub(crate) fn play<M: Scripted, B: Board, S: Source, K: Sink>(engine: &mut Engin
 }
 
 // Settles what an earlier life left, and goes on by the course.
-fn follow<M: Scripted, B: Board, S: Source, K: Sink>(engine: &mut Engine<M>, board: &mut B, source: &mut S, out: &mut K, reader: &mut Reader, head: Head, course: Course) -> Result<u32, Stop>
+fn follow<M: Scripted, B: Board, S: Source, K: Sink>(
+    engine: &mut Engine<M>,
+    board: &mut B,
+    source: &mut S,
+    out: &mut K,
+    reader: &mut Reader,
+    head: Head,
+    course: Course,
+) -> Result<u32, Stop>
     requires live { IsLive engine.old }
     requires place { HasPlace (B.view board.old) engine.old }
     requires count { head.count ≤ 1000000 }
@@ -58,7 +70,7 @@ fn follow<M: Scripted, B: Board, S: Source, K: Sink>(engine: &mut Engine<M>, boa
     ensures runs { IsTrue (B.view board.new).tells → (Z : List ℕ) (H : List (Entry M.Item)) (text : List ℕ) →
         Holds M.rules M.view Z H (B.view board.old) engine.old → HasLeft reader.old (S.left source.old) text →
         RunsGiven M.rules M.view (says M.rules M.scripts) Z H (items_on M.scripts head.id head.count (given (lines_of text) head.count 2) course) (given (lines_of text) head.count 2).bad
-            (B.view board.old) (B.view board.new) engine.new (K.written out.old) (K.written out.new) result }
+        (B.view board.old) (B.view board.new) engine.new (K.written out.old) (K.written out.new) result }
     ensures tells { IsTrue (B.view board.new).tells → IsTrue (B.view board.old).tells }
     ensures faults { ((B.view board.old).disk_faults ≤ (B.view board.new).disk_faults) × (K.faults out.old ≤ K.faults out.new) × (S.faults source.old ≤ S.faults source.new) }
     ensures disk { IsErrOf result Stop.Disk → Rose (B.view board.old).disk_faults (B.view board.new).disk_faults }
@@ -73,13 +85,22 @@ fn follow<M: Scripted, B: Board, S: Source, K: Sink>(engine: &mut Engine<M>, boa
     }
     match course {
         Course::Begins => begin(engine, board, source, out, reader, head),
-        Course::GoesOn { taken } => take_lines(engine, board, source, out, reader, head.count, taken),
+        Course::GoesOn { taken } => take_lines(
+            engine, board, source, out, reader, head.count, taken,
+        ),
         Course::Over => end_over(source, reader, head),
     }
 }
 
 // Opens a script, and takes its items.
-fn begin<M: Scripted, B: Board, S: Source, K: Sink>(engine: &mut Engine<M>, board: &mut B, source: &mut S, out: &mut K, reader: &mut Reader, head: Head) -> Result<u32, Stop>
+fn begin<M: Scripted, B: Board, S: Source, K: Sink>(
+    engine: &mut Engine<M>,
+    board: &mut B,
+    source: &mut S,
+    out: &mut K,
+    reader: &mut Reader,
+    head: Head,
+) -> Result<u32, Stop>
     requires live { IsLive engine.old }
     requires place { HasPlace (B.view board.old) engine.old }
     requires count { head.count ≤ 1000000 }
@@ -88,7 +109,7 @@ fn begin<M: Scripted, B: Board, S: Source, K: Sink>(engine: &mut Engine<M>, boar
     ensures runs { IsTrue (B.view board.new).tells → (Z : List ℕ) (H : List (Entry M.Item)) (text : List ℕ) →
         Holds M.rules M.view Z H (B.view board.old) engine.old → HasLeft reader.old (S.left source.old) text →
         RunsGiven M.rules M.view (says M.rules M.scripts) Z H (items_on M.scripts head.id head.count (given (lines_of text) head.count 2) Course.Begins) (given (lines_of text) head.count 2).bad
-            (B.view board.old) (B.view board.new) engine.new (K.written out.old) (K.written out.new) result }
+        (B.view board.old) (B.view board.new) engine.new (K.written out.old) (K.written out.new) result }
     ensures tells { IsTrue (B.view board.new).tells → IsTrue (B.view board.old).tells }
     ensures faults { ((B.view board.old).disk_faults ≤ (B.view board.new).disk_faults) × (K.faults out.old ≤ K.faults out.new) × (S.faults source.old ≤ S.faults source.new) }
     ensures disk { IsErrOf result Stop.Disk → Rose (B.view board.old).disk_faults (B.view board.new).disk_faults }

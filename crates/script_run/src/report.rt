@@ -7,12 +7,11 @@ ghost use Rattle.pef_engine.specs.declared.entry.Entry.{Entry};
 ghost use Rattle.pef_engine.specs.Rules.{Lawful, IsItem};
 ghost use Rattle.script_run.specs.Report.{act_word, told_word, address_text, outcome_line, says};
 
-use pef_engine::{ReportLine, Scripted};
 use crate::stop::Stop;
 use board_core::{Act, Address, Octets, Sink, Step, Told};
 use hex::encode_to_slice;
 use itoa::Buffer;
-use pef_engine::Entry;
+use pef_engine::{Entry, ReportLine, Scripted};
 
 // Writes a line.
 pub(crate) fn put<K: Sink>(out: &mut K, line: &[u8]) -> Result<(), Stop>
@@ -27,7 +26,11 @@ pub(crate) fn put<K: Sink>(out: &mut K, line: &[u8]) -> Result<(), Stop>
 }
 
 // Writes the line of the item that was taken last.
-pub(crate) fn say_taken<M: Scripted, K: Sink>(machine: &M, entry: &Entry<M::Item>, out: &mut K) -> Result<(), Stop>
+pub(crate) fn say_taken<M: Scripted, K: Sink>(
+    machine: &M,
+    entry: &Entry<M::Item>,
+    out: &mut K,
+) -> Result<(), Stop>
     requires { IsItem entry.now }
     ensures said { (Z : List ℕ) (H : List (Entry M.Item)) → Lawful M.rules Z (H ++ entry.now ∷ []) → (M.view machine.now).shows Z (H ++ entry.now ∷ []) →
         Appends (says M.rules M.scripts Z H entry.now) (K.written out.old) (K.written out.new) result }

@@ -9,15 +9,19 @@ ghost use Rattle.script_run.specs.Top.{Performs, AnswersNone, IsOpeningStop, las
 
 use crate::playing::play;
 use crate::report::{add, number, put};
-use pef_engine::{ReportLine, Scripted};
 use crate::stop::Stop;
 use board_core::{Board, Sink, Source};
 use hex::encode_to_slice;
-use pef_engine::{Engine, EngineFault};
+use pef_engine::{Engine, EngineFault, ReportLine, Scripted};
 use std::alloc::Global;
 
 /// Opens the machine's file and runs the script that the source gives. Answers how many items were taken.
-pub fn perform<M: Scripted, B: Board, S: Source, K: Sink>(alloc: Global, board: &mut B, source: &mut S, out: &mut K) -> Result<u32, Stop>
+pub fn perform<M: Scripted, B: Board, S: Source, K: Sink>(
+    alloc: Global,
+    board: &mut B,
+    source: &mut S,
+    out: &mut K,
+) -> Result<u32, Stop>
     ensures performs { IsTrue (B.view board.new).tells → (Z : List ℕ) (H : List (Entry M.Item)) (text : List ℕ) →
         Lawful M.rules Z H → Stands M.rules Z H (B.view board.old).octets → S.left source.old ≡ Some text →
         Performs M.rules M.view (says M.rules M.scripts) M.scripts Z H text (B.view board.old) (B.view board.new) (K.written out.old) (K.written out.new) result }

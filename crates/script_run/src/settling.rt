@@ -10,13 +10,16 @@ ghost use Rattle.script_run.specs.Report.{says};
 ghost use Rattle.script_run.specs.Run.{Runs, StopsFull, MovesOn, IsStepStop};
 
 use crate::report::{say_outcome, say_taken};
-use pef_engine::Scripted;
-use crate::stop::{stop_of, Stop};
+use crate::stop::{Stop, stop_of};
 use board_core::{Board, Sink};
-use pef_engine::{Engine, Entry};
+use pef_engine::{Engine, Entry, Scripted};
 
 /// Settles all that is due, and writes what each step was told.
-pub(crate) fn settle_and_say<M: Scripted, B: Board, K: Sink>(engine: &mut Engine<M>, board: &mut B, out: &mut K) -> Result<(), Stop>
+pub(crate) fn settle_and_say<M: Scripted, B: Board, K: Sink>(
+    engine: &mut Engine<M>,
+    board: &mut B,
+    out: &mut K,
+) -> Result<(), Stop>
     requires live { IsLive engine.old }
     requires place { HasPlace (B.view board.old) engine.old }
     ensures runs { IsTrue (B.view board.new).tells → (Z : List ℕ) (H : List (Entry M.Item)) →
@@ -52,7 +55,12 @@ pub(crate) fn settle_and_say<M: Scripted, B: Board, K: Sink>(engine: &mut Engine
 }
 
 /// Takes one item, writes its line, and settles all that is due after it.
-pub(crate) fn take_one<M: Scripted, B: Board, K: Sink>(engine: &mut Engine<M>, board: &mut B, out: &mut K, item: M::Item) -> Result<(), Stop>
+pub(crate) fn take_one<M: Scripted, B: Board, K: Sink>(
+    engine: &mut Engine<M>,
+    board: &mut B,
+    out: &mut K,
+    item: M::Item,
+) -> Result<(), Stop>
     requires live { IsLive engine.old }
     requires place { HasPlace (B.view board.old) engine.old }
     requires allowed { (M.view engine.old.machine).allowed (Entry.Item item) }

@@ -10,16 +10,23 @@ ghost use Rattle.script_run.specs.Items.{rest_of};
 ghost use Rattle.script_run.specs.Report.{says};
 ghost use Rattle.script_run.specs.Run.{RunsGiven, IsReadyFor, Answers};
 
-use pef_engine::Scripted;
 use crate::settling::take_one;
 use crate::stop::Stop;
 use board_core::{Board, Sink, Source};
-use pef_engine::Engine;
+use pef_engine::{Engine, Scripted};
 use script_text::{Form, Reader};
 
 /// Takes what the lines behind the head give, behind so many items that were taken before: the events, and then the closing
 /// item where no line is bad. Answers how many items were taken.
-pub(crate) fn take_lines<M: Scripted, B: Board, S: Source, K: Sink>(engine: &mut Engine<M>, board: &mut B, source: &mut S, out: &mut K, reader: &mut Reader, count: u32, taken: u32) -> Result<u32, Stop>
+pub(crate) fn take_lines<M: Scripted, B: Board, S: Source, K: Sink>(
+    engine: &mut Engine<M>,
+    board: &mut B,
+    source: &mut S,
+    out: &mut K,
+    reader: &mut Reader,
+    count: u32,
+    taken: u32,
+) -> Result<u32, Stop>
     requires live { IsLive engine.old }
     requires place { HasPlace (B.view board.old) engine.old }
     requires count { count ≤ 1000000 }
@@ -83,7 +90,11 @@ pub(crate) fn take_lines<M: Scripted, B: Board, S: Source, K: Sink>(engine: &mut
 }
 
 /// Reads and checks the lines of a script that was closed before.
-pub(crate) fn pass_over<S: Source>(source: &mut S, reader: &mut Reader, count: u32) -> Result<(), Stop>
+pub(crate) fn pass_over<S: Source>(
+    source: &mut S,
+    reader: &mut Reader,
+    count: u32,
+) -> Result<(), Stop>
     requires count { count ≤ 1000000 }
     ensures answers { (text : List ℕ) → HasLeft reader.old (S.left source.old) text → Answers (given (lines_of text) count 2).bad result }
     ensures input { IsErrOf result Stop.Input → Rose (S.faults source.old) (S.faults source.new) }
@@ -121,7 +132,10 @@ pub(crate) fn pass_over<S: Source>(source: &mut S, reader: &mut Reader, count: u
 }
 
 // The form of the next line, and None where it has none or no line comes.
-pub(crate) fn next_form<S: Source>(reader: &mut Reader, source: &mut S) -> Result<Option<Form>, Stop>
+pub(crate) fn next_form<S: Source>(
+    reader: &mut Reader,
+    source: &mut S,
+) -> Result<Option<Form>, Stop>
     ensures form { (text : List ℕ) → HasLeft reader.old (S.left source.old) text → IfOk result (GivesForm text reader.new (S.left source.new)) }
     ensures count { IfOk result HasCount }
     ensures input { (IsErr result → IsErrOf result Stop.Input) × ((IsErr result → Rose (S.faults source.old) (S.faults source.new)) × (S.faults source.old ≤ S.faults source.new)) }

@@ -26,10 +26,10 @@ returns-in-Err-clause-runs g c = λ tells Z H text holds unread.
     let given' = given (lines_of text) c.args.head.count 2 in
     let rest = rest_of scripts' 0 given' in
     first_fails rules' view' says' Z H (scripts'.opening c.args.head.id c.args.head.count ∷ []) rest (scripts'.opening c.args.head.id c.args.head.count ∷ rest) given'.bad
-      (view c.args.board.now) (view c.take_one.new.board) c.take_one.new.engine (written c.args.out.now) (written c.take_one.new.out) c.in-Err.stop (step_fault c.in-Err.stop c.in-Err.ensures.stops)
-      (subst (λ i. LeavesOnly (view c.args.board.now) (view c.take_one.new.board) (LeavesPrefix rules' Z H (view c.args.board.now) (i ∷ []))) c.opening.ensures.item (c.take_one.ensures.moments tells Z H holds))
-      (λ e. subst (λ i. StopsFull rules' view' says' Z H (i ∷ []) (view c.args.board.now) (view c.take_one.new.board) c.take_one.new.engine (written c.args.out.now) (written c.take_one.new.out)) c.opening.ensures.item (c.in-Err.ensures.full tells Z H holds (is_err e)))
-      refl
+    (view c.args.board.now) (view c.take_one.new.board) c.take_one.new.engine (written c.args.out.now) (written c.take_one.new.out) c.in-Err.stop (step_fault c.in-Err.stop c.in-Err.ensures.stops)
+    (subst (λ i. LeavesOnly (view c.args.board.now) (view c.take_one.new.board) (LeavesPrefix rules' Z H (view c.args.board.now) (i ∷ []))) c.opening.ensures.item (c.take_one.ensures.moments tells Z H holds))
+    (λ e. subst (λ i. StopsFull rules' view' says' Z H (i ∷ []) (view c.args.board.now) (view c.take_one.new.board) c.take_one.new.engine (written c.args.out.now) (written c.take_one.new.out)) c.opening.ensures.item (c.in-Err.ensures.full tells Z H holds (is_err e)))
+    refl
 
 pub returns-in-Err-take_lines-clause-runs : goal.returns-in-Err-take_lines-clause-runs
 returns-in-Err-take_lines-clause-runs g c = λ tells Z H text holds unread.
@@ -43,10 +43,10 @@ returns-in-Err-take_lines-clause-runs g c = λ tells Z H text holds unread.
     let given' = given (lines_of text) c.args.head.count 2 in
     let rest = rest_of scripts' 0 given' in
     let r = subst (λ i. Runs rules' view' says' Z H (i ∷ []) (view c.args.board.now) (view c.take_one.new.board) c.take_one.new.engine (written c.args.out.now) (written c.take_one.new.out)) c.opening.ensures.item
-      (c.in-Ok.ensures.runs mid Z H holds) in
+    (c.in-Ok.ensures.runs mid Z H holds) in
     fails_behind rules' view' says' Z H (scripts'.opening c.args.head.id c.args.head.count ∷ []) rest (scripts'.opening c.args.head.id c.args.head.count ∷ rest) given'.bad
-      (view c.args.board.now) (view c.take_one.new.board) (view c.take_lines.new.board) c.take_one.new.engine c.take_lines.new.engine (written c.args.out.now) (written c.take_one.new.out) (written c.take_lines.new.out)
-      c.in-Err-take_lines.stop r (c.in-Err-take_lines.ensures.runs tells Z (H ++ r.entries) text r.holds unread) refl
+    (view c.args.board.now) (view c.take_one.new.board) (view c.take_lines.new.board) c.take_one.new.engine c.take_lines.new.engine (written c.args.out.now) (written c.take_one.new.out) (written c.take_lines.new.out)
+    c.in-Err-take_lines.stop r (c.in-Err-take_lines.ensures.runs tells Z (H ++ r.entries) text r.holds unread) refl
 
 pub returns-clause-runs : goal.returns-clause-runs
 returns-clause-runs g c = λ tells Z H text holds unread.
@@ -60,10 +60,10 @@ returns-clause-runs g c = λ tells Z H text holds unread.
     let given' = given (lines_of text) c.args.head.count 2 in
     let rest = rest_of scripts' 0 given' in
     let r = subst (λ i. Runs rules' view' says' Z H (i ∷ []) (view c.args.board.now) (view c.take_one.new.board) c.take_one.new.engine (written c.args.out.now) (written c.take_one.new.out)) c.opening.ensures.item
-      (c.in-Ok.ensures.runs mid Z H holds) in
+    (c.in-Ok.ensures.runs mid Z H holds) in
     given_behind rules' view' says' Z H (scripts'.opening c.args.head.id c.args.head.count ∷ []) rest (scripts'.opening c.args.head.id c.args.head.count ∷ rest) given'.bad
-      (view c.args.board.now) (view c.take_one.new.board) (view c.take_lines.new.board) c.take_one.new.engine c.take_lines.new.engine (written c.args.out.now) (written c.take_one.new.out) (written c.take_lines.new.out)
-      (Ok c.in-Ok-take_lines.items) (Ok (c.in-Ok-take_lines.items + 1)) r (c.in-Ok-take_lines.ensures.runs tells Z (H ++ r.entries) text r.holds unread) refl (inr (c.in-Ok-take_lines.items, refl, ap Ok (omega arith)))
+    (view c.args.board.now) (view c.take_one.new.board) (view c.take_lines.new.board) c.take_one.new.engine c.take_lines.new.engine (written c.args.out.now) (written c.take_one.new.out) (written c.take_lines.new.out)
+    (Ok c.in-Ok-take_lines.items) (Ok (c.in-Ok-take_lines.items + 1)) r (c.in-Ok-take_lines.ensures.runs tells Z (H ++ r.entries) text r.holds unread) refl (inr (c.in-Ok-take_lines.items, refl, ap Ok (omega arith)))
 
 pub take_one-requires-clause-allowed : goal.take_one-requires-clause-allowed
 take_one-requires-clause-allowed g c = opening_allowed g.M.Machine.rules g.M.Scripted.scripts g.met.M.Scripted.scripted (g.M.Machine.view c.args.engine.now.machine) (g.met.M.Machine.agrees c.args.engine.now.machine) c.args.head.id c.args.head.count c.requires.course c.requires.idle
@@ -72,4 +72,3 @@ take_one-requires-clause-allowed g c = opening_allowed g.M.Machine.rules g.M.Scr
 pub take_lines-requires-clause-ready : goal.take_lines-requires-clause-ready
 take_lines-requires-clause-ready g c = ready_opened g.M.Machine.rules g.M.Scripted.scripts g.met.M.Scripted.scripted (g.M.Machine.view c.args.engine.now.machine) (g.met.M.Machine.agrees c.args.engine.now.machine) c.args.head.id c.args.head.count c.requires.course c.requires.idle
     (g.M.Machine.view c.take_one.new.engine.machine) c.opening.result c.opening.ensures.item c.in-Ok.ensures.moves c.in-Ok.ensures.idle
-

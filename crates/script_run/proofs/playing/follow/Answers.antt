@@ -27,8 +27,8 @@ returns-in-Err-clause-runs g c = λ tells Z H text holds unread.
     let written = g.K.Sink.written in
     let items = items_on scripts' c.args.head.id c.args.head.count (given (lines_of text) c.args.head.count 2) c.args.course in
     first_fails rules' view' says' Z H [] items items (given (lines_of text) c.args.head.count 2).bad
-      (view c.args.board.now) (view c.settle_and_say.new.board) c.settle_and_say.new.engine (written c.args.out.now) (written c.settle_and_say.new.out) c.in-Err.stop (step_fault c.in-Err.stop c.in-Err.ensures.stops)
-      (c.settle_and_say.ensures.moments tells Z H holds) (λ e. c.in-Err.ensures.full tells Z H holds (is_err e)) refl
+    (view c.args.board.now) (view c.settle_and_say.new.board) c.settle_and_say.new.engine (written c.args.out.now) (written c.settle_and_say.new.out) c.in-Err.stop (step_fault c.in-Err.stop c.in-Err.ensures.stops)
+    (c.settle_and_say.ensures.moments tells Z H holds) (λ e. c.in-Err.ensures.full tells Z H holds (is_err e)) refl
 
 pub returns-in-Begins-clause-runs : goal.returns-in-Begins-clause-runs
 returns-in-Begins-clause-runs g c = λ tells Z H text holds unread.
@@ -42,9 +42,9 @@ returns-in-Begins-clause-runs g c = λ tells Z H text holds unread.
     let p = c.in-Ok.ensures.runs mid Z H holds in
     let items = items_on scripts' c.args.head.id c.args.head.count (given (lines_of text) c.args.head.count 2) Begins in
     subst (λ x. RunsGiven rules' view' says' Z H (items_on scripts' c.args.head.id c.args.head.count (given (lines_of text) c.args.head.count 2) x) (given (lines_of text) c.args.head.count 2).bad (view c.args.board.now) (view c.begin.new.board) c.begin.new.engine (written c.args.out.now) (written c.begin.new.out) c.begin.result) (sym c.in-Begins.is)
-      (given_behind rules' view' says' Z H [] items items (given (lines_of text) c.args.head.count 2).bad
-      (view c.args.board.now) (view c.settle_and_say.new.board) (view c.begin.new.board) c.settle_and_say.new.engine c.begin.new.engine (written c.args.out.now) (written c.settle_and_say.new.out) (written c.begin.new.out)
-      c.begin.result c.begin.result p (c.begin.ensures.runs tells Z (H ++ p.entries) text p.holds unread) refl (inl (refl, refl)))
+    (given_behind rules' view' says' Z H [] items items (given (lines_of text) c.args.head.count 2).bad
+    (view c.args.board.now) (view c.settle_and_say.new.board) (view c.begin.new.board) c.settle_and_say.new.engine c.begin.new.engine (written c.args.out.now) (written c.settle_and_say.new.out) (written c.begin.new.out)
+    c.begin.result c.begin.result p (c.begin.ensures.runs tells Z (H ++ p.entries) text p.holds unread) refl (inl (refl, refl)))
 
 pub returns-in-GoesOn-clause-runs : goal.returns-in-GoesOn-clause-runs
 returns-in-GoesOn-clause-runs g c = λ tells Z H text holds unread.
@@ -58,9 +58,9 @@ returns-in-GoesOn-clause-runs g c = λ tells Z H text holds unread.
     let p = c.in-Ok.ensures.runs mid Z H holds in
     let items = items_on scripts' c.args.head.id c.args.head.count (given (lines_of text) c.args.head.count 2) (GoesOn c.in-GoesOn.taken) in
     subst (λ x. RunsGiven rules' view' says' Z H (items_on scripts' c.args.head.id c.args.head.count (given (lines_of text) c.args.head.count 2) x) (given (lines_of text) c.args.head.count 2).bad (view c.args.board.now) (view c.take_lines.new.board) c.take_lines.new.engine (written c.args.out.now) (written c.take_lines.new.out) c.take_lines.result) (sym c.in-GoesOn.is)
-      (given_behind rules' view' says' Z H [] items items (given (lines_of text) c.args.head.count 2).bad
-      (view c.args.board.now) (view c.settle_and_say.new.board) (view c.take_lines.new.board) c.settle_and_say.new.engine c.take_lines.new.engine (written c.args.out.now) (written c.settle_and_say.new.out) (written c.take_lines.new.out)
-      c.take_lines.result c.take_lines.result p (c.take_lines.ensures.runs tells Z (H ++ p.entries) text p.holds unread) refl (inl (refl, refl)))
+    (given_behind rules' view' says' Z H [] items items (given (lines_of text) c.args.head.count 2).bad
+    (view c.args.board.now) (view c.settle_and_say.new.board) (view c.take_lines.new.board) c.settle_and_say.new.engine c.take_lines.new.engine (written c.args.out.now) (written c.settle_and_say.new.out) (written c.take_lines.new.out)
+    c.take_lines.result c.take_lines.result p (c.take_lines.ensures.runs tells Z (H ++ p.entries) text p.holds unread) refl (inl (refl, refl)))
 
 pub returns-in-Over-clause-runs : goal.returns-in-Over-clause-runs
 returns-in-Over-clause-runs g c = λ tells Z H text holds unread.
@@ -72,9 +72,9 @@ returns-in-Over-clause-runs g c = λ tells Z H text holds unread.
     let written = g.K.Sink.written in
     let p = c.in-Ok.ensures.runs tells Z H holds in
     subst (λ x. RunsGiven rules' view' says' Z H (items_on scripts' c.args.head.id c.args.head.count (given (lines_of text) c.args.head.count 2) x) (given (lines_of text) c.args.head.count 2).bad (view c.args.board.now) (view c.settle_and_say.new.board) c.settle_and_say.new.engine (written c.args.out.now) (written c.settle_and_say.new.out) c.end_over.result) (sym c.in-Over.is)
-      (over_given rules' view' says' Z H (given (lines_of text) c.args.head.count 2).bad (view c.args.board.now) (view c.settle_and_say.new.board) c.settle_and_say.new.engine (written c.args.out.now) (written c.settle_and_say.new.out)
-      c.end_over.result p (c.end_over.ensures.answers text unread) c.end_over.ensures.none c.end_over.ensures.other
-      (λ G held. sym ((g.met.M.Machine.agrees c.settle_and_say.new.engine.machine).due Z G held.lawful held.shows) ∙ c.in-Ok.ensures.idle))
+    (over_given rules' view' says' Z H (given (lines_of text) c.args.head.count 2).bad (view c.args.board.now) (view c.settle_and_say.new.board) c.settle_and_say.new.engine (written c.args.out.now) (written c.settle_and_say.new.out)
+    c.end_over.result p (c.end_over.ensures.answers text unread) c.end_over.ensures.none c.end_over.ensures.other
+    (λ G held. sym ((g.met.M.Machine.agrees c.settle_and_say.new.engine.machine).due Z G held.lawful held.shows) ∙ c.in-Ok.ensures.idle))
 
 pub begin-requires-clause-course : goal.begin-requires-clause-course
 begin-requires-clause-course g c = course_keeps g.M.Machine.rules g.M.Scripted.scripts g.met.M.Scripted.scripted (g.M.Machine.view c.args.engine.now.machine) (g.M.Machine.view c.settle_and_say.new.engine.machine) c.args.head.id c.args.head.count Begins
@@ -87,4 +87,3 @@ take_lines-requires-clause-taken g c = taken_within g.M.Machine.rules g.M.Script
 pub take_lines-requires-clause-ready : goal.take_lines-requires-clause-ready
 take_lines-requires-clause-ready g c = ready_there g.M.Machine.rules g.M.Scripted.scripts g.met.M.Scripted.scripted (g.M.Machine.view c.settle_and_say.new.engine.machine) c.args.head.id c.args.head.count c.in-GoesOn.taken (course_keeps g.M.Machine.rules g.M.Scripted.scripts g.met.M.Scripted.scripted (g.M.Machine.view c.args.engine.now.machine) (g.M.Machine.view c.settle_and_say.new.engine.machine) c.args.head.id c.args.head.count (GoesOn c.in-GoesOn.taken)
     (subst (TakesCourse g.M.Machine.rules g.M.Scripted.scripts (g.M.Machine.view c.args.engine.now.machine) c.args.head.id c.args.head.count) c.in-GoesOn.is c.requires.course) c.in-Ok.ensures.moves) c.in-Ok.ensures.idle
-

@@ -37,7 +37,7 @@ returns-in-Err-course_of-clause-plays g c = λ tells Z H text holds left.
     let view = g.B.Board.view in
     let written = g.K.Sink.written in
     let unread = reader_left c.new-reader.result (g.S.Source.left c.args.source.now) text c.new-reader.ensures left in
-    let script : c.script-script.result ≡ scripts'.script_of H = c.script-script.ensures Z H holds.lawful (subst (λ m. (view' m).shows Z H) (sym c.machine.ensures) holds.shows) in
+    let script : c.opened-script.result ≡ scripts'.script_of H = c.opened-script.ensures Z H holds.lawful (subst (λ m. (view' m).shows Z H) (sym c.machine.ensures) holds.shows) in
     let head = c.in-Ok.ensures.head text unread in
     let said : Said = record { id = c.in-Ok.head.id; count = c.in-Ok.head.count; given = given (lines_of head.rest) c.in-Ok.head.count 2 } in
     plays_refused rules' view' says' scripts' Z H text (view c.args.board.now) (g.met.B.Board.sound c.args.board.now) tells c.args.engine.now (written c.args.out.now) holds said head.said c.in-Err-course_of.stop (subst (λ s. GivesCourse s c.in-Ok.head.id c.in-Ok.head.count (Err c.in-Err-course_of.stop)) script c.in-Err-course_of.ensures)
@@ -52,17 +52,16 @@ returns-clause-plays g c = λ tells Z H text holds left.
     let view = g.B.Board.view in
     let written = g.K.Sink.written in
     let unread = reader_left c.new-reader.result (g.S.Source.left c.args.source.now) text c.new-reader.ensures left in
-    let script : c.script-script.result ≡ scripts'.script_of H = c.script-script.ensures Z H holds.lawful (subst (λ m. (view' m).shows Z H) (sym c.machine.ensures) holds.shows) in
+    let script : c.opened-script.result ≡ scripts'.script_of H = c.opened-script.ensures Z H holds.lawful (subst (λ m. (view' m).shows Z H) (sym c.machine.ensures) holds.shows) in
     let head = c.in-Ok.ensures.head text unread in
     let said : Said = record { id = c.in-Ok.head.id; count = c.in-Ok.head.count; given = given (lines_of head.rest) c.in-Ok.head.count 2 } in
     plays_on rules' view' says' scripts' Z H text (view c.args.board.now) (g.met.B.Board.sound c.args.board.now) back c.args.engine.now (written c.args.out.now) holds said head.said c.in-Ok-course_of.course (subst (λ s. IsCourse s c.in-Ok.head.id c.in-Ok.head.count c.in-Ok-course_of.course) script c.in-Ok-course_of.ensures)
-      (view c.follow.new.board) c.follow.new.engine (written c.follow.new.out) c.follow.result (c.follow.ensures.runs tells Z H head.rest holds head.left) (λ id count e. c.follow.ensures.other.0 id count e)
+    (view c.follow.new.board) c.follow.new.engine (written c.follow.new.out) c.follow.result (c.follow.ensures.runs tells Z H head.rest holds head.left) (λ id count e. c.follow.ensures.other.0 id count e)
 
 pub follow-requires-clause-course : goal.follow-requires-clause-course
-follow-requires-clause-course g c = 
+follow-requires-clause-course g c =
     let rules' = g.M.Machine.rules in
     let view' = g.M.Machine.view in
     let s = c.requires.shows in
-    let script : c.script-script.result ≡ g.M.Scripted.scripts.script_of s.history = c.script-script.ensures s.settings s.history s.lawful (subst (λ m. (view' m).shows s.settings s.history) (sym c.machine.ensures) s.shows) in
+    let script : c.opened-script.result ≡ g.M.Scripted.scripts.script_of s.history = c.opened-script.ensures s.settings s.history s.lawful (subst (λ m. (view' m).shows s.settings s.history) (sym c.machine.ensures) s.shows) in
     record { settings = s.settings; history = s.history; lawful = s.lawful; shows = s.shows; stands = subst (λ s. IsCourse s c.in-Ok.head.id c.in-Ok.head.count c.in-Ok-course_of.course) script c.in-Ok-course_of.ensures }
-

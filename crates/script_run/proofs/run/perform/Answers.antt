@@ -21,8 +21,8 @@ returns-in-Err-clause-performs g c = λ tells Z H text lawful stands left.
     let opened = c.in-Err.ensures.opened tells Z H lawful stands in
     let formatted : c.stop_at_opening.result ≡ Unformatted → ⊥ = λ e. ⊎_elim (λ u. opened.formatted (is_err u)) (λ u. opened.unbroken u.0 (is_err u.1)) (c.stop_at_opening.ensures.unformatted e) in
     performs_not rules' view' says' scripts' Z H text (view c.args.board.now) (view c.open.new.board) (written c.args.out.now) c.stop_at_opening.result
-      (open_keeps rules' view' says' Z H (items_of_text scripts' text H) (view c.args.board.now) (view c.open.new.board) (g.met.B.Board.sound c.open.new.board) tells opened.sent opened.octets stands opened.any_moment)
-      c.stop_at_opening.ensures.opening formatted (λ e. c.in-Err.ensures.full (is_err (c.stop_at_opening.ensures.full.0 e)))
+    (open_keeps rules' view' says' Z H (items_of_text scripts' text H) (view c.args.board.now) (view c.open.new.board) (g.met.B.Board.sound c.open.new.board) tells opened.sent opened.octets stands opened.any_moment)
+    c.stop_at_opening.ensures.opening formatted (λ e. c.in-Err.ensures.full (is_err (c.stop_at_opening.ensures.full.0 e)))
 
 pub returns-in-Err-clause-unformatted : goal.returns-in-Err-clause-unformatted
 returns-in-Err-clause-unformatted g c = λ err tells Z H lawful stands.
@@ -44,10 +44,9 @@ returns-clause-performs g c = λ tells Z H text lawful stands left.
     let back = c.play.ensures.tells tells in
     let opened = c.in-Ok.ensures.opened back Z H lawful stands in
     performs rules' view' says' scripts' Z H text (view c.args.board.now) (view c.open.new.board) (view c.play.new.board) c.play.new.engine (written c.args.out.now) (written c.play.new.out) opened.synced opened.sent
-      (g.met.B.Board.sound c.play.new.board) tells c.play.result (c.play.ensures.plays tells Z H text opened.holds left)
+    (g.met.B.Board.sound c.play.new.board) tells c.play.result (c.play.ensures.plays tells Z H text opened.holds left)
 
 pub returns-clause-nothing : goal.returns-clause-nothing
 returns-clause-nothing g c = λ tells none.
     let some = c.in-Ok.ensures.stands (c.play.ensures.tells tells) in
     absurd (none some.0 some.1 some.2 some.3)
-

@@ -24,36 +24,36 @@ steps-init g c = record {
 
 pub steps-preserved : goal.steps-preserved
 steps-preserved g c =
-  let rules' = g.M.Machine.rules in
-  let view' = g.M.Machine.view in
-  let live = c.in-Ok-Some.ensures.live.1 (λ e. cc e) in record {
-    live = live;
-    place = c.settle.ensures.place live;
-    disk = omega (arith, c.steps.invariant.disk, c.settle.ensures.faults);
-    output = omega (arith, c.steps.invariant.output, c.say_outcome.ensures.faults);
-    tells = λ t. c.steps.invariant.tells (c.settle.ensures.tells t);
-    moves =
-      let before = c.steps.engine.machine in
-      let none = rw c.in-Ok-Some.field-0-is at c.in-Ok-Some.ensures.none in
-      let due = some_unless (view' before).due (λ e. cc (none.1 e)) in
-      moves_compose rules' (view' c.args.engine.now.machine) (view' before) (view' c.settle.new.self.machine) [] [] c.steps.invariant.moves
-        (moves_one rules' (view' before) (view' c.settle.new.self.machine) (Outcome c.in-Ok-Some.told) (g.met.M.Machine.agrees before) (((g.met.M.Machine.agrees before).outcome c.in-Ok-Some.told).1 due)
+    let rules' = g.M.Machine.rules in
+    let view' = g.M.Machine.view in
+    let live = c.in-Ok-Some.ensures.live.1 (λ e. cc e) in record {
+      live = live;
+      place = c.settle.ensures.place live;
+      disk = omega (arith, c.steps.invariant.disk, c.settle.ensures.faults);
+      output = omega (arith, c.steps.invariant.output, c.say_outcome.ensures.faults);
+      tells = λ t. c.steps.invariant.tells (c.settle.ensures.tells t);
+      moves =
+          let before = c.steps.engine.machine in
+          let none = rw c.in-Ok-Some.field-0-is at c.in-Ok-Some.ensures.none in
+          let due = some_unless (view' before).due (λ e. cc (none.1 e)) in
+          moves_compose rules' (view' c.args.engine.now.machine) (view' before) (view' c.settle.new.self.machine) [] [] c.steps.invariant.moves
+          (moves_one rules' (view' before) (view' c.settle.new.self.machine) (Outcome c.in-Ok-Some.told) (g.met.M.Machine.agrees before) (((g.met.M.Machine.agrees before).outcome c.in-Ok-Some.told).1 due)
           (c.in-Ok-Some.ensures.goes_on c.in-Ok-Some.told c.in-Ok-Some.field-0-is));
-    runs = λ tells Z H holds.
-      let view = g.B.Board.view in
-      let says' = says rules' g.M.Scripted.scripts in
-      let p = c.steps.invariant.runs (c.settle.ensures.tells tells) Z H holds in
-      let later = c.settle.ensures.any_moment tells Z (H ++ p.entries) p.holds in
-      let settled = subst (Settled rules' view' Z (H ++ p.entries) (view c.steps.board) (view c.settle.new.board) c.settle.new.self) c.in-Ok-Some.field-0-is
-        (c.in-Ok-Some.ensures.settled tells Z (H ++ p.entries) p.holds).settled in
-      let due : c.next-step.result ≡ rules'.pending Z (H ++ p.entries) =
-        c.next-step.ensures ∙ ap (λ m. (view' m).due) c.machine.ensures ∙ (g.met.M.Machine.agrees c.steps.engine.machine).due Z (H ++ p.entries) p.holds.lawful p.holds.shows in
-      let said = appends_ok {E = Stop} (outcome_line c.next-step.result c.in-Ok-Some.told) (g.K.Sink.written c.steps.out) (g.K.Sink.written c.say_outcome.new.out) (Ok c.in-Ok.field-0) c.in-Ok.ensures.said in
-      runs_compose rules' view' says' Z H [] [] (view c.args.board.now) (view c.steps.board) (view c.settle.new.board) c.steps.engine c.settle.new.self
-        (g.K.Sink.written c.args.out.now) (g.K.Sink.written c.steps.out) (g.K.Sink.written c.say_outcome.new.out) p
-        (one_outcome rules' view' says' Z (H ++ p.entries) (view c.steps.board) (view c.settle.new.board) c.settle.new.self (g.K.Sink.written c.steps.out) (g.K.Sink.written c.say_outcome.new.out)
+      runs = λ tells Z H holds.
+          let view = g.B.Board.view in
+          let says' = says rules' g.M.Scripted.scripts in
+          let p = c.steps.invariant.runs (c.settle.ensures.tells tells) Z H holds in
+          let later = c.settle.ensures.any_moment tells Z (H ++ p.entries) p.holds in
+          let settled = subst (Settled rules' view' Z (H ++ p.entries) (view c.steps.board) (view c.settle.new.board) c.settle.new.self) c.in-Ok-Some.field-0-is
+          (c.in-Ok-Some.ensures.settled tells Z (H ++ p.entries) p.holds).settled in
+          let due : c.next-step.result ≡ rules'.pending Z (H ++ p.entries) =
+          c.next-step.ensures ∙ ap (λ m. (view' m).due) c.machine.ensures ∙ (g.met.M.Machine.agrees c.steps.engine.machine).due Z (H ++ p.entries) p.holds.lawful p.holds.shows in
+          let said = appends_ok {E = Stop} (outcome_line c.next-step.result c.in-Ok-Some.told) (g.K.Sink.written c.steps.out) (g.K.Sink.written c.say_outcome.new.out) (Ok c.in-Ok.field-0) c.in-Ok.ensures.said in
+          runs_compose rules' view' says' Z H [] [] (view c.args.board.now) (view c.steps.board) (view c.settle.new.board) c.steps.engine c.settle.new.self
+          (g.K.Sink.written c.args.out.now) (g.K.Sink.written c.steps.out) (g.K.Sink.written c.say_outcome.new.out) p
+          (one_outcome rules' view' says' Z (H ++ p.entries) (view c.steps.board) (view c.settle.new.board) c.settle.new.self (g.K.Sink.written c.steps.out) (g.K.Sink.written c.say_outcome.new.out)
           c.in-Ok-Some.told c.steps.engine settled later (λ old is. said old is ∙ ap (λ s. Some (old ++ outcome_line s c.in-Ok-Some.told)) due));
-  }
+    }
 
 pub returns-in-Err-say_outcome-clause-moments : goal.returns-in-Err-say_outcome-clause-moments
 returns-in-Err-say_outcome-clause-moments g c = λ tells Z H holds.
@@ -83,4 +83,4 @@ returns-in-Err-clause-full g c = λ tells Z H holds err.
     let due = ((g.met.M.Machine.agrees c.steps.engine.machine).due Z (H ++ p.entries) p.holds.lawful p.holds.shows) in
     let comes = some_of (view' c.steps.engine.machine).due (rules'.pending Z (H ++ p.entries)) due why.0 in
     full_now rules' view' says' Z H [] (view c.args.board.now) (view c.steps.board) (view c.settle.new.board) c.steps.engine c.settle.new.self (g.K.Sink.written c.args.out.now) (g.K.Sink.written c.steps.out)
-      p (ap (λ b. view b) same.0) same.1 (Outcome Done) comes (too_much_outcome rules' view' Z (H ++ p.entries) (view c.steps.board) c.steps.engine p.holds g.met.M.Machine.same_size why.1)
+    p (ap (λ b. view b) same.0) same.1 (Outcome Done) comes (too_much_outcome rules' view' Z (H ++ p.entries) (view c.steps.board) c.steps.engine p.holds g.met.M.Machine.same_size why.1)

@@ -14,7 +14,7 @@ invariant-steps g l = record {
   tells : IsTrue (g.B.Board.view l.board).tells → IsTrue (g.B.Board.view l.fn.board).tells;
   moves : MovesOn g.M.Machine.rules (g.M.Machine.view l.fn.engine.machine) (g.M.Machine.view l.engine.machine) [];
   runs : IsTrue (g.B.Board.view l.board).tells → (Z : List ℕ) (H : List (Entry g.row.M-Item.Denot)) → Holds g.M.Machine.rules g.M.Machine.view Z H (g.B.Board.view l.fn.board) l.fn.engine
-    → Runs g.M.Machine.rules g.M.Machine.view (says g.M.Machine.rules g.M.Scripted.scripts) Z H [] (g.B.Board.view l.fn.board) (g.B.Board.view l.board) l.engine (g.K.Sink.written l.fn.out) (g.K.Sink.written l.out);
+      → Runs g.M.Machine.rules g.M.Machine.view (says g.M.Machine.rules g.M.Scripted.scripts) Z H [] (g.B.Board.view l.fn.board) (g.B.Board.view l.board) l.engine (g.K.Sink.written l.fn.out) (g.K.Sink.written l.out);
 }
 
 abbrev pub decreases-steps : goal.decreases-steps

@@ -25,7 +25,7 @@ returns-in-Err-clause-full g c = λ tells Z H holds err.
     let allowed = ((g.met.M.Machine.agrees c.args.engine.now.machine).allowed Z H (Item c.args.item) holds.lawful holds.shows).0 c.requires.allowed in
     let too_much = too_much_item rules' view' Z H (view c.args.board.now) c.args.engine.now holds c.args.item (c.in-Err.ensures.full (is_err was)) in
     subst (λ (v : BoardView). StopsFull rules' view' says' Z H (c.args.item ∷ []) v (view c.take.new.board) c.take.new.self (g.K.Sink.written c.args.out.now) (g.K.Sink.written c.args.out.now)) (ap (λ b. view b) same.0)
-      (full_at_once rules' view' says' Z H c.args.item (view c.take.new.board) c.take.new.self (g.K.Sink.written c.args.out.now) (g.met.B.Board.sound c.take.new.board) tells held allowed.0 too_much)
+    (full_at_once rules' view' says' Z H c.args.item (view c.take.new.board) c.take.new.self (g.K.Sink.written c.args.out.now) (g.met.B.Board.sound c.take.new.board) tells held allowed.0 too_much)
 
 taken : (g : Given.Over) (c : goal.Joined-entry-3 g) → IsTrue (g.B.Board.view c.settle_and_say.new.board).tells → (Z : List ℕ) (H : List (Entry g.row.M-Item.Denot)) → Holds g.M.Machine.rules g.M.Machine.view Z H (g.B.Board.view c.args.board.now) c.args.engine.now
     → Runs g.M.Machine.rules g.M.Machine.view (says g.M.Machine.rules g.M.Scripted.scripts) Z H (c.args.item ∷ []) (g.B.Board.view c.args.board.now) (g.B.Board.view c.take.new.board) c.take.new.self (g.K.Sink.written c.args.out.now) (g.K.Sink.written c.say_taken.new.out)
@@ -37,29 +37,29 @@ taken g c tells Z H holds =
     let allowed = ((g.met.M.Machine.agrees c.args.engine.now.machine).allowed Z H (Item c.args.item) holds.lawful holds.shows).0 c.requires.allowed in
     let after = c.in-Ok.ensures.taken mid Z H holds in
     one_item rules' view' says' Z H c.args.item (g.B.Board.view c.args.board.now) (g.B.Board.view c.take.new.board) c.take.new.self (g.K.Sink.written c.args.out.now) (g.K.Sink.written c.say_taken.new.out)
-      allowed after.taken after.sent (c.take.ensures.any_moment mid Z H holds)
-      (appends_ok {E = Stop} (says' Z H (Item c.args.item)) (g.K.Sink.written c.args.out.now) (g.K.Sink.written c.say_taken.new.out) (Ok c.in-Ok-say_taken.field-0)
-        (c.in-Ok-say_taken.ensures.said Z H (lawful-append rules' Z H (Item c.args.item) holds.lawful allowed) (subst (λ m. (view' m).shows Z (H ++ Item c.args.item ∷ [])) (sym c.machine.ensures) after.taken.shows)))
+    allowed after.taken after.sent (c.take.ensures.any_moment mid Z H holds)
+    (appends_ok {E = Stop} (says' Z H (Item c.args.item)) (g.K.Sink.written c.args.out.now) (g.K.Sink.written c.say_taken.new.out) (Ok c.in-Ok-say_taken.field-0)
+    (c.in-Ok-say_taken.ensures.said Z H (lawful-append rules' Z H (Item c.args.item) holds.lawful allowed) (subst (λ m. (view' m).shows Z (H ++ Item c.args.item ∷ [])) (sym c.machine.ensures) after.taken.shows)))
 
 pub returns-clause-runs : goal.returns-clause-runs
 returns-clause-runs g c = λ tells Z H holds.
     let q = taken g c tells Z H holds in
     on_ok_map c.settle_and_say.result
-      (λ r. runs_compose g.M.Machine.rules g.M.Machine.view (says g.M.Machine.rules g.M.Scripted.scripts) Z H (c.args.item ∷ []) [] (g.B.Board.view c.args.board.now) (g.B.Board.view c.take.new.board) (g.B.Board.view c.settle_and_say.new.board) c.take.new.self c.settle_and_say.new.engine
-        (g.K.Sink.written c.args.out.now) (g.K.Sink.written c.say_taken.new.out) (g.K.Sink.written c.settle_and_say.new.out) q r)
-      (c.settle_and_say.ensures.runs tells Z (H ++ q.entries) q.holds)
+    (λ r. runs_compose g.M.Machine.rules g.M.Machine.view (says g.M.Machine.rules g.M.Scripted.scripts) Z H (c.args.item ∷ []) [] (g.B.Board.view c.args.board.now) (g.B.Board.view c.take.new.board) (g.B.Board.view c.settle_and_say.new.board) c.take.new.self c.settle_and_say.new.engine
+    (g.K.Sink.written c.args.out.now) (g.K.Sink.written c.say_taken.new.out) (g.K.Sink.written c.settle_and_say.new.out) q r)
+    (c.settle_and_say.ensures.runs tells Z (H ++ q.entries) q.holds)
 
 pub returns-clause-full : goal.returns-clause-full
 returns-clause-full g c = λ tells Z H holds err.
     let q = taken g c tells Z H holds in
     full_behind g.M.Machine.rules g.M.Machine.view (says g.M.Machine.rules g.M.Scripted.scripts) Z H (c.args.item ∷ []) [] [] (c.args.item ∷ []) (g.B.Board.view c.args.board.now) (g.B.Board.view c.take.new.board) (g.B.Board.view c.settle_and_say.new.board) c.take.new.self c.settle_and_say.new.engine
-      (g.K.Sink.written c.args.out.now) (g.K.Sink.written c.say_taken.new.out) (g.K.Sink.written c.settle_and_say.new.out) q (c.settle_and_say.ensures.full tells Z (H ++ q.entries) q.holds err) refl
+    (g.K.Sink.written c.args.out.now) (g.K.Sink.written c.say_taken.new.out) (g.K.Sink.written c.settle_and_say.new.out) q (c.settle_and_say.ensures.full tells Z (H ++ q.entries) q.holds err) refl
 
 pub returns-clause-moments : goal.returns-clause-moments
 returns-clause-moments g c = λ tells Z H holds.
     let q = taken g c tells Z H holds in
     moments_behind g.M.Machine.rules g.M.Machine.view (says g.M.Machine.rules g.M.Scripted.scripts) Z H (c.args.item ∷ []) [] (g.B.Board.view c.args.board.now) (g.B.Board.view c.take.new.board) (g.B.Board.view c.settle_and_say.new.board) c.take.new.self
-      (g.K.Sink.written c.args.out.now) (g.K.Sink.written c.say_taken.new.out) q (c.settle_and_say.ensures.moments tells Z (H ++ q.entries) q.holds)
+    (g.K.Sink.written c.args.out.now) (g.K.Sink.written c.say_taken.new.out) q (c.settle_and_say.ensures.moments tells Z (H ++ q.entries) q.holds)
 
 pub returns-clause-moves : goal.returns-clause-moves
 returns-clause-moves g c =
@@ -67,5 +67,5 @@ returns-clause-moves g c =
     let view' = g.M.Machine.view in
     let first = moves_one rules' (view' c.args.engine.now.machine) (view' c.take.new.self.machine) (Item c.args.item) (g.met.M.Machine.agrees c.args.engine.now.machine) c.requires.allowed c.in-Ok.ensures.goes_on in
     on_ok_map c.settle_and_say.result
-      (λ m. moves_compose rules' (view' c.args.engine.now.machine) (view' c.take.new.self.machine) (view' c.settle_and_say.new.engine.machine) (c.args.item ∷ []) [] first m)
-      c.settle_and_say.ensures.moves
+    (λ m. moves_compose rules' (view' c.args.engine.now.machine) (view' c.take.new.self.machine) (view' c.settle_and_say.new.engine.machine) (c.args.item ∷ []) [] first m)
+    c.settle_and_say.ensures.moves

@@ -19,20 +19,20 @@ returns-then-left-eq0-clause-answers g c = λ text unread.
     sym p.bad ∙ ap (λ (g : Given). g.bad) (given_too_many p.rest gives.rest gives.line c.in-Event.octets c.lines.left c.lines.number gives.lines gives.has c.if-left-eq0.true)
 
 pub lines-preserved : goal.lines-preserved
-lines-preserved g c = 
-  let more : 0 < c.lines.left = omega (arith, c.if-left-eq0.false) in record {
-    line = omega (arith, c.lines.invariant.line, more);
-    input = omega (arith, c.lines.invariant.input, c.next_form.ensures.input.1.1);
-    passes = λ text unread.
-      let p = c.lines.invariant.passes text unread in
-      let form : c.in-Ok.form ≡ Some (EventForm c.in-Event.octets) = c.in-Some.is ∙ ap Some c.in-Event.is in
-      let gives = subst (GivesForm p.rest c.next_form.new.reader (g.S.Source.left c.next_form.new.source)) form (c.in-Ok.ensures.form p.rest p.unread) in
-      record {
-        rest = gives.rest;
-        unread = gives.left;
-        bad = sym (ap (λ (g : Given). g.bad) (given_event p.rest gives.rest gives.line c.in-Event.octets c.lines.left c.lines.number gives.lines gives.has more)) ∙ p.bad;
-      };
-  }
+lines-preserved g c =
+    let more : 0 < c.lines.left = omega (arith, c.if-left-eq0.false) in record {
+      line = omega (arith, c.lines.invariant.line, more);
+      input = omega (arith, c.lines.invariant.input, c.next_form.ensures.input.1.1);
+      passes = λ text unread.
+          let p = c.lines.invariant.passes text unread in
+          let form : c.in-Ok.form ≡ Some (EventForm c.in-Event.octets) = c.in-Some.is ∙ ap Some c.in-Event.is in
+          let gives = subst (GivesForm p.rest c.next_form.new.reader (g.S.Source.left c.next_form.new.source)) form (c.in-Ok.ensures.form p.rest p.unread) in
+          record {
+            rest = gives.rest;
+            unread = gives.left;
+            bad = sym (ap (λ (g : Given). g.bad) (given_event p.rest gives.rest gives.line c.in-Event.octets c.lines.left c.lines.number gives.lines gives.has more)) ∙ p.bad;
+          };
+    }
 
 pub returns-then-left-ne0-clause-answers : goal.returns-then-left-ne0-clause-answers
 returns-then-left-ne0-clause-answers g c = λ text unread.

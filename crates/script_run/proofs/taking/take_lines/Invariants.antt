@@ -19,8 +19,8 @@ invariant-lines g l = record {
   tells : IsTrue (g.B.Board.view l.board).tells → IsTrue (g.B.Board.view l.fn.board).tells;
   ready : IsReadyFor g.M.Machine.rules g.M.Scripted.scripts (g.M.Machine.view l.engine.machine) l.count (l.skip + (l.count - l.left));
   takes : IsTrue (g.B.Board.view l.board).tells → (Z : List ℕ) (H : List (Entry g.row.M-Item.Denot)) (text : List ℕ)
-    → Holds g.M.Machine.rules g.M.Machine.view Z H (g.B.Board.view l.fn.board) l.fn.engine → HasLeft l.fn.reader (g.S.Source.left l.fn.source) text
-    → Takes g.M.Machine.rules g.M.Machine.view (says g.M.Machine.rules g.M.Scripted.scripts) g.M.Scripted.scripts Z H text l.count l.taken (g.B.Board.view l.fn.board) (g.B.Board.view l.board) l.engine (g.K.Sink.written l.fn.out) (g.K.Sink.written l.out) l.reader (g.S.Source.left l.source) l.skip l.left l.number l.items;
+      → Holds g.M.Machine.rules g.M.Machine.view Z H (g.B.Board.view l.fn.board) l.fn.engine → HasLeft l.fn.reader (g.S.Source.left l.fn.source) text
+      → Takes g.M.Machine.rules g.M.Machine.view (says g.M.Machine.rules g.M.Scripted.scripts) g.M.Scripted.scripts Z H text l.count l.taken (g.B.Board.view l.fn.board) (g.B.Board.view l.board) l.engine (g.K.Sink.written l.fn.out) (g.K.Sink.written l.out) l.reader (g.S.Source.left l.source) l.skip l.left l.number l.items;
 }
 
 abbrev pub decreases-lines : goal.decreases-lines
