@@ -24,3 +24,8 @@ pub use memory_source::MemSource;
 pub use sink::{Sink, SinkFailed};
 pub use source::{Source, SourceFailed};
 pub use step::{Act, Address, Community, Octets, Payload, Sent, Step, Text, Told};
+
+#[cfg(test)]
+mod crash_tests;
+#[cfg(test)]
+mod tests;

@@ -8,12 +8,16 @@ use crate::trace::Trace;
 use std::alloc::{AllocError, Global};
 
 /// A board in memory. It keeps what its calls did, so that what a crash at each moment leaves can be read off it.
+/// A write that fails leaves what a read gives, but until a sync a crash may leave any octets in its range.
+/// An `issue` that finds no memory to note its step answers `Failed`, and the board tells its content no longer: its calls
+/// then take any place, and an octet past the end counts as 00h.
 #[derive(Drop)]
 pub struct MemBoard {
     trace: Trace,
     tells: bool,
     file_calls: Failures,
     issue_calls: Failures,
+    // how many calls found no memory
     starved: u64,
     disk_faults: u64,
     issue_faults: u64,
@@ -101,7 +105,7 @@ impl MemBoard {
 }
 
 impl Board for MemBoard {
-    ghost use Rattle.std.specs.Prelude.{◌≡◌, ◌↔◌, ◌⊎◌, ◌+◌, ◌^◌, ◌<◌, ◌≤◌, length, false, IsTrue, IsErr, IfOk, OnOk};
+    ghost use Rattle.std.specs.Prelude.{◌≡◌, ◌↔◌, ◌⊎◌, ◌+◌, ◌^◌, ◌<◌, ◌≤◌, length, false, IsTrue, IsErr, IfOk, OnOk, OnErr};
     ghost use Rattle.board_core.specs.declared.step.Told.TheVariants.{Failed};
     ghost use Rattle.board_core.specs.Causes.{HasCause, Rose};
     ghost use Rattle.board_core.specs.Board.{Reads, ReadsAt, TakesWrite, Syncs, Issues, HasRoomFor};
@@ -153,6 +157,7 @@ impl Board for MemBoard {
         ensures written { TakesWrite place from.now (memory_view self.old) (memory_view self.new) result }
         ensures cause { HasCause (memory_view self.old).disk_faults (memory_view self.new).disk_faults result }
         ensures fails { FailsExactly (FailsNext self.old.file_calls) self.old.starved self.new.starved (IsErr result) }
+        ensures unchanged { OnErr result ((memory_view self.new).octets ≡ (memory_view self.old).octets) }
         ensures counts { IsFileCallOf self.old self.new }
     {
         if self.file_calls.count() {

@@ -10,30 +10,43 @@ pub type Text = Bytes<61>;
 /// An SNMP community string.
 pub type Community = Bytes<18>;
 
+/// An action of an event filter other than an alert (IPMI 2.0, table 17-2).
 #[derive(Clone, Copy, Debug, PartialEq, Eq)]
 pub enum Act {
+    /// The power goes off.
     PowerDown,
+    /// The power goes off, and on again.
     PowerCycle,
+    /// The system is reset.
     Reset,
+    /// The system gets a diagnostic interrupt, as an NMI.
     DiagInt,
+    /// What the manufacturer defines.
     Oem,
 }
 
+/// Where a datagram goes or comes from: an IPv4 address, the octet that is sent first in front, and a UDP port.
 #[derive(Clone, Copy, Debug, PartialEq, Eq)]
 pub struct Address {
     pub ip: [u8; 4],
     pub port: u16,
 }
 
+/// What is done to the outside.
 #[derive(Drop)]
 pub enum Step {
+    /// The plant acts, for the event record with this ID.
     Act { kind: Act, id: u16 },
+    /// A datagram is sent by UDP.
     Datagram { to: Address, octets: Octets },
 }
 
+/// What is told of a step.
 #[derive(Clone, Copy, Debug, PartialEq, Eq)]
 pub enum Told {
+    /// It was done.
     Done,
+    /// It failed, as far as can be told.
     Failed,
 }
 
