@@ -1,4 +1,3 @@
-use Rattle.std.proofs.Common.{ℕ}
 use Rattle.pef_journal.specs.Journal.{KnowsLength}
 use Rattle.pef_journal.proofs.tests.read_all.Given as goal
 
