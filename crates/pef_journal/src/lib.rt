@@ -14,3 +14,6 @@ mod syncing;
 pub use fault::JournalFault;
 pub use formatting::{format, kind_of};
 pub use journal::Journal;
+
+#[cfg(test)]
+mod tests;
