@@ -1,18 +1,15 @@
--- How a text stands in the tail of a body: the tail's fields of PET 1.0 hold one text field at most, and C1h ends them.
-use Rattle.std.specs.Prelude.{ℕ, ◌+◌, ◌-◌, Bool, false, ◌==◌, ◌&&◌, nat_le, nat_lt, List, [], ◌∷◌, ◌++◌, length, take, slice_index, if◌then◌else◌}
+-- A text in the tail of a body. PET 1.0 lets a tail hold fields that each begin with a length octet, and C1h ends them.
+use Rattle.std.specs.Prelude.{ℕ, ◌+◌, ◌-◌, Bool, ◌==◌, ◌&&◌, nat_le, nat_lt, List, [], ◌∷◌, ◌++◌, length, take, slice_index, if◌then◌else◌}
 
--- nothing but the end for the empty text; else a length octet, the text, 00h and the end
+-- the end alone for the empty text; else the length octet, the text, 00h and the end
 abbrev pub tail_for : List ℕ → List ℕ
-tail_for [] = 0xC1 ∷ []
-tail_for (first ∷ others) = (0xC1 + (1 + length others)) ∷ (first ∷ others) ++ 0x00 ∷ 0xC1 ∷ []
+tail_for text = if length text == 0 then 0xC1 ∷ [] else (0xC1 + length text) ∷ text ++ 0x00 ∷ 0xC1 ∷ []
 
--- a length octet of C1h + n for n from 1 to 61, n octets and 00h
-abbrev pub begins_with_text : List ℕ → Bool
-begins_with_text [] = false
-begins_with_text (first ∷ others) =
-    nat_le 0xC2 first && nat_le first 0xFE && nat_lt (first - 0xC1) (length others) && (slice_index others (first - 0xC1) == 0x00)
+-- a text of n octets stands behind a length octet: n is 1 to 61, and 00h follows the n octets
+abbrev pub is_text : ℕ → List ℕ → Bool
+is_text n behind = nat_le 1 n && nat_le n 61 && nat_lt n (length behind) && (slice_index behind n == 0x00)
 
--- the text of a tail, which is empty where the tail doesn't begin with one
+-- the text with which a tail begins, empty where it begins with none
 abbrev pub text_in : List ℕ → List ℕ
 text_in [] = []
-text_in (first ∷ others) = if begins_with_text (first ∷ others) then take (first - 0xC1) others else []
+text_in (first ∷ behind) = if is_text (first - 0xC1) behind then take (first - 0xC1) behind else []

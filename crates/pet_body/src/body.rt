@@ -13,7 +13,9 @@ pub struct Body {
     pub timestamp: u32,
     /// The UTC offset in minutes, FFFFh where it isn't known.
     pub utc: u16,
+    /// What made the trap: 20h is IPMI.
     pub trap_source: u8,
+    /// What made the event: 20h is IPMI.
     pub event_source: u8,
     /// The event severity, as in the event filter table.
     pub severity: u8,
@@ -21,14 +23,18 @@ pub struct Body {
     pub device: u8,
     /// The sensor number.
     pub sensor: u8,
+    /// The entity ID of the sensor, 00h where it isn't known.
     pub entity: u8,
+    /// The instance of this entity.
     pub instance: u8,
+    /// Event data 1 to 8.
     pub event_data: [u8; 8],
     /// The language code, FFh where it isn't known.
     pub language: u8,
     /// The manufacturer's IANA enterprise number.
     pub manufacturer: u32,
+    /// The manufacturer's number of the kind of system.
     pub system: u16,
-    /// The octets behind the 46 of the fields before.
+    /// The octets behind these 46: fields that the manufacturer defines, and C1h at their end.
     pub tail: Bytes<64>,
 }

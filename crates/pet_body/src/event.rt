@@ -11,19 +11,23 @@ use event_record::Record;
 /// 1998-01-01 in seconds since 1970-01-01.
 const EPOCH: u32 = 883_612_800;
 
-/// A UTC offset or a time that isn't known.
-const UNKNOWN_TIME: u32 = 0xFFFF_FFFF;
+/// The timestamp of a record whose time isn't specified.
+const UNSPECIFIED: u32 = 0xFFFF_FFFF;
 
-/// The software at 20h that handles and sends the event.
-const BMC: u8 = 0x20;
+/// The slave address of the management controller: the device of an alert without a record.
+const CONTROLLER: u8 = 0x20;
 
-/// Whose traps these are.
+/// The source type of events and traps that come by IPMI.
+const IPMI: u8 = 0x20;
+
+/// The system that sends traps, as its traps name it.
 #[derive(Clone, Copy, Debug, PartialEq, Eq)]
 pub struct Identity {
     /// The system GUID, octets in their order.
     pub guid: [u8; 16],
     /// The manufacturer's IANA enterprise number.
     pub manufacturer: u32,
+    /// The manufacturer's number of the kind of system.
     pub system: u16,
 }
 
@@ -31,7 +35,7 @@ fn timestamp_of(stamp: Option<u32>) -> u32
     ensures { result ≡ local_time stamp }
 {
     match stamp {
-        Some(UNKNOWN_TIME) | None => 0,
+        Some(UNSPECIFIED) | None => 0,
         Some(seconds) => seconds.saturating_sub(EPOCH),
     }
 }
@@ -53,15 +57,15 @@ pub fn body_of(
             event.sensor(),
             event.event_data(),
         ),
-        None => (0, BMC, 0, [0; 3]),
+        None => (0, CONTROLLER, 0, [0; 3]),
     };
     Body {
         guid: identity.guid,
         sequence,
         timestamp,
         utc: 0xFFFF,
-        trap_source: BMC,
-        event_source: BMC,
+        trap_source: IPMI,
+        event_source: IPMI,
         severity,
         device,
         sensor,
@@ -82,11 +86,11 @@ pub fn specific_of(event: Option<&Record>) -> u32
 {
     match event {
         Some(event) => {
-            let trigger = event.trigger();
             let [data, ..] = event.event_data();
-            let direction = trigger / 0x80;
-            let last = direction * 0x80 + data % 0x10;
-            u32::from_be_bytes([0, event.sensor_type(), trigger % 0x80, last])
+            let direction = event.trigger() / 0x80;
+            let kind = event.trigger() % 0x80;
+            let offset = data % 0x10;
+            u32::from_be_bytes([0, event.sensor_type(), kind, direction * 0x80 + offset])
         }
         None => 0,
     }

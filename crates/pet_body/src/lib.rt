@@ -14,3 +14,6 @@ pub use body::Body;
 pub use event::{Identity, body_of, specific_of};
 pub use fault::BodyFault;
 pub use tail::{tail_of, tail_text};
+
+#[cfg(test)]
+mod tests;
