@@ -1,0 +1,4 @@
+pub mod Numbers
+pub mod Results
+pub mod Elements
+pub mod Loop
