@@ -71,16 +71,10 @@ pub record IsBody (body : List ℕ) : Type 0 where
   pub most : length body ≤ 110
 
 -- the value of the first binding with the name
-pub record IsBodyOf (bindings : List Binding) (body : List ℕ) : Type 0 where
-  pub before : List Binding
-  pub counting : Binding
-  pub after : List Binding
-  pub split : bindings ≡ before ++ counting ∷ after
-  pub is_first : AllByRecursion (λ b. b.name ≢ body_name) before
-  pub has_name : counting.name ≡ body_name
-  pub has_tag : counting.tag ≡ 4
-  pub has_value : counting.value ≡ body
-  pub is_body : IsBody body
+abbrev pub IsBodyOf : List Binding → List ℕ → Type 0
+IsBodyOf [] body = ⊥
+IsBodyOf (b ∷ bs) body =
+    ((b.name ≡ body_name) × (b.tag ≡ 4) × (b.value ≡ body) × IsBody body) ⊎ ((b.name ≢ body_name) × IsBodyOf bs body)
 
 -- ---- the message
 
