@@ -6,3 +6,5 @@ pub mod Exact
 pub mod Leaves
 pub mod Fronts
 pub mod Bindings
+pub mod Message
+pub mod Laws
