@@ -7,4 +7,4 @@ pub mod Leaves
 pub mod Fronts
 pub mod Bindings
 pub mod Message
-pub mod Laws
+pub mod Answered

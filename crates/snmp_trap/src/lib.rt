@@ -2,12 +2,16 @@
 #![tactic(auto)]
 
 mod contents;
-mod decode;
+mod reading;
 mod element;
+mod writing;
+mod laws;
 mod number;
 mod reader;
 mod refusal;
 mod trap;
 
+pub use reading::decode;
+pub use laws::{no_prefix, one_answer};
 pub use refusal::{Refusal, Why};
 pub use trap::{Trap, TrapView};

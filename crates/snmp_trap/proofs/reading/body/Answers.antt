@@ -1,7 +1,7 @@
 use Rattle.std.proofs.Common.{rules}
 use Rattle.std.proofs.lemmas.Result.{err_from_is_err_and}
 use Rattle.snmp_trap.proofs.Loop.{shorter, stops_at_element, keeps, stops, ends}
-use Rattle.snmp_trap.proofs.decode.body.Goals as goal
+use Rattle.snmp_trap.proofs.reading.body.Goals as goal
 
 pub returns-in_err-next : goal.returns-in_err-next
 returns-in_err-next c =

@@ -2,7 +2,7 @@ use Rattle.std.proofs.Common.{length}
 use Rattle.std.specs.Option.{option_map}
 use Rattle.snmp_trap.specs.Reading.{list_at}
 use Rattle.snmp_trap.proofs.Loop.{Left}
-use Rattle.snmp_trap.proofs.decode.body.Given as goal
+use Rattle.snmp_trap.proofs.reading.body.Given as goal
 
 -- the bindings that are left are read as the whole list is
 abbrev pub invariant-loop-rest : goal.invariant-loop-rest

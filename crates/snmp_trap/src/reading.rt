@@ -1,5 +1,5 @@
 //! A trap message is read: RFC 1157, sections 4 and 4.1.6.
-ghost use Rattle.std.specs.Prelude.{◌≡◌, ℕ, IfOk, IfErr, IsOkAnd, IsErrOf, is_some, option_map};
+ghost use Rattle.std.specs.Prelude.{◌≡◌, ℕ, IfOk, IfErr, IsOkAnd, IsErrAnd, is_some, option_map};
 ghost use Rattle.snmp_trap.specs.declared.refusal.Why.{Why};
 ghost use Rattle.snmp_trap.specs.Grammar.{Seen, IsTrap};
 ghost use Rattle.snmp_trap.specs.Refusals.{refusal, RefusedTrap, one};
@@ -115,4 +115,19 @@ fn read(octets: &[u8]) -> Result<TrapView<'_>, Refusal>
     let view = message(&outermost)?;
     rest.ended()?;
     Ok(view)
+}
+
+/// The trap message that the octets are, all of them, borrowed from them.
+///
+/// Lengths may be longer than needed, the community may have any length, and other bindings may stand beside the
+/// body's, of which the first counts. What isn't a trap message is refused for the first thing that is wrong.
+pub fn decode(octets: &[u8]) -> Result<TrapView<'_>, Refusal>
+    // What is read stands there.
+    ensures view { IfOk result (λ v. IsTrap octets.now (seen v)) }
+    // What stands there is read.
+    ensures every_view { (v : Seen) → IsTrap octets.now v → IsOkAnd result (λ w. seen w ≡ v) }
+    ensures refused { IfErr result (λ r. RefusedTrap octets.now r.why r.at) }
+    ensures every_refusal { (why : Why) (at : ℕ) → RefusedTrap octets.now why at → IsErrAnd result (λ r. r ≡ refusal at why) }
+{
+    read(octets)
 }
