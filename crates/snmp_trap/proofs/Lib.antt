@@ -8,3 +8,5 @@ pub mod Fronts
 pub mod Bindings
 pub mod Message
 pub mod Answered
+pub mod Shorter
+pub mod Spelled

@@ -25,18 +25,13 @@ number_octets n = drop (5 - number_length n) (0 ∷ to_be_bytes w32 n)
 unfoldable pub number_element : ℕ → ℕ → List ℕ
 number_element tag n = element tag (number_octets n)
 
-unfoldable pub binding : List ℕ → List ℕ
-binding body = element 6 body_name ++ element 4 body
-
+-- the list with the one binding
 unfoldable pub list : List ℕ → List ℕ
-list body = element 48 (element 48 (binding body))
+list body = element 48 (element 48 (element 6 body_name ++ element 4 body))
 
 unfoldable pub trap_part : Seen → List ℕ
 trap_part v =
     element 6 pet_enterprise ++ (element 64 v.agent ++ (number_element 2 6 ++ (number_element 2 v.specific ++ (number_element 67 v.ticks ++ list v.body))))
 
-unfoldable pub message : Seen → List ℕ
-message v = number_element 2 0 ++ (element 4 v.community ++ element 164 (trap_part v))
-
 unfoldable pub spelling : Seen → List ℕ
-spelling v = element 48 (message v)
+spelling v = element 48 (number_element 2 0 ++ (element 4 v.community ++ element 164 (trap_part v)))

@@ -2,7 +2,7 @@
 ghost use Rattle.std.specs.Prelude.{◌≡◌, ◌<◌, ◌≤◌, ◌^◌, ◌+◌, ◌∷◌, ◌++◌, length};
 ghost use Rattle.snmp_trap.specs.Grammar.{IsBody, IsTrap};
 ghost use Rattle.snmp_trap.specs.Shortest.{Shortest};
-ghost use Rattle.snmp_trap.specs.Spelling.{fields, length_octets, element, number_length, number_element, list, trap_part, message, spelling};
+ghost use Rattle.snmp_trap.specs.Spelling.{fields, length_octets, element, number_length, number_element, list, trap_part, spelling};
 
 use crate::contents::{BODY_NAME, ENTERPRISE};
 use crate::trap::Trap;
