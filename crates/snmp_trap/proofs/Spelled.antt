@@ -1,5 +1,5 @@
 -- What is written is the shortest spelling, and is read again.
-use Rattle.std.proofs.Common.{◌≡◌, ◌⊎◌, ℕ, ◌+◌, ◌-◌, ◌^◌, ◌<◌, ◌≤◌, Bool, cond, ltb, List, [], ◌∷◌, ◌++◌, length, refl, sym, ap, subst, ◌∙◌, inl, inr, append-nil, arith, ◌%◌}
+use Rattle.std.proofs.Common.{◌≡◌, ◌⊎◌, ℕ, ◌+◌, ◌-◌, ◌^◌, ◌<◌, ◌≤◌, Bool, cond, ltb, List, [], ◌∷◌, ◌++◌, length, refl, sym, ap, subst, ◌∙◌, inl, inr, append_assoc, append-nil, arith, ◌%◌}
 use Rattle.std.proofs.lemmas.Bool.{cases_lt, lt-ltb, le-ltb}
 use Rattle.std.proofs.lemmas.List.{length-append}
 use Rattle.snmp_trap.specs.Grammar.{IsElement, IsNumberElement, IsBody, IsBodyOf, AreBindings, Binding, IsBinding, Seen, IsTrapPart, IsTrap, pet_enterprise, body_name}
@@ -169,3 +169,45 @@ read_again v octets fits is = record {
   is_trap = read_element is.trap 164 is.contents is.is_trap;
   trap_part = read_trap_part v is.contents fits is.trap_part;
 }
+
+-- ---- the writer's steps
+
+regroup : (h a b l t : List ℕ) → (((h ++ a) ++ b) ++ l) ++ t ≡ h ++ (a ++ (b ++ (l ++ t)))
+regroup h a b l t = simp append_assoc
+
+pub joined : (v : Seen) (n part outer : ℕ) (o1 o2 o3 o4 o5 : List ℕ) → HasSpelling v → length v.community ≤ 18 → part ≡ length (trap_part v) → outer ≡ 1 + length (length_octets part) + part → n ≡ 5 + length v.community + outer → o1 ≡ 48 ∷ length_octets n → o2 ≡ o1 ++ number_element 2 0 → o3 ≡ o2 ++ element 4 v.community → o4 ≡ o3 ++ 164 ∷ length_octets part → o5 ≡ o4 ++ trap_part v → o5 ≡ spelling v
+unfolding spelling
+joined v n part outer o1 o2 o3 o4 o5 is le is_part is_outer is_n e1 e2 e3 e4 e5 =
+    let version = number_element 2 0 in
+    let community = element 4 v.community in
+    let inner = trap_part v in
+    let held = element 164 inner in
+    let rest = version ++ (community ++ held) in
+    let held_length : length held ≡ outer = length-element 164 inner ∙ sym (is_outer ∙ ap (λ k. 1 + length (length_octets k) + k) is_part) in
+    let size : n ≡ length rest = omega (arith, is_n, held_length, length-append version (community ++ held), length-append community held, length-number_element 2 0 (omega arith), short_length 4 v.community (omega arith)) in
+    let written : o5 ≡ ((((48 ∷ length_octets n) ++ version) ++ community) ++ (164 ∷ length_octets part)) ++ inner = e5 ∙ ap (λ (w : List ℕ). w ++ inner) (e4 ∙ ap (λ (w : List ℕ). w ++ (164 ∷ length_octets part)) (e3 ∙ ap (λ (w : List ℕ). w ++ community) (e2 ∙ ap (λ (w : List ℕ). w ++ version) e1))) in
+    written ∙ regroup (48 ∷ length_octets n) version community (164 ∷ length_octets part) inner ∙ ap (λ k. (48 ∷ length_octets n) ++ (version ++ (community ++ ((164 ∷ length_octets k) ++ inner)))) is_part ∙ ap (λ k. (48 ∷ length_octets k) ++ rest) size
+
+four_are_enough : (n : ℕ) → n < 2 ^ 24 → number_length n ≤ 4
+four_are_enough n lt =
+    elim (cases_lt n (2 ^ 7)) [
+      | inl a ↦ rw (lt-ltb _ _ a) (omega arith)
+      | inr a ↦
+        elim (cases_lt n (2 ^ 15)) [
+          | inl b ↦ rw (le-ltb _ _ a, lt-ltb _ _ b) (omega arith)
+          | inr b ↦
+            elim (cases_lt n (2 ^ 23)) [
+              | inl d ↦ rw (le-ltb _ _ a, le-ltb _ _ b, lt-ltb _ _ d) (omega arith)
+              | inr d ↦ let e : n < 2 ^ 31 = omega arith in rw (le-ltb _ _ a, le-ltb _ _ b, le-ltb _ _ d, lt-ltb _ _ e) (omega arith)
+            ]
+        ]
+    ]
+
+pub length-spelling : (v : Seen) → HasSpelling v → length v.community ≤ 18 → v.specific < 2 ^ 24 → length (spelling v) ≤ 190
+unfolding spelling
+length-spelling v is le small =
+    let version = number_element 2 0 in
+    let community = element 4 v.community in
+    let held = element 164 (trap_part v) in
+    let most = is.body.most in
+    omega (arith, any_length 48 (version ++ (community ++ held)), length-append version (community ++ held), length-append community held, length-number_element 2 0 (omega arith), short_length 4 v.community (omega arith), any_length 164 (trap_part v), length-trap_part v is, four_are_enough v.specific small, number_length-fits v.ticks is.ticks)

@@ -15,3 +15,4 @@ pub use reading::decode;
 pub use laws::{no_prefix, one_answer};
 pub use refusal::{Refusal, Why};
 pub use trap::{Trap, TrapView};
+pub use writing::encode;
