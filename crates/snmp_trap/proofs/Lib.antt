@@ -10,3 +10,4 @@ pub mod Message
 pub mod Answered
 pub mod Shorter
 pub mod Spelled
+pub mod Rows

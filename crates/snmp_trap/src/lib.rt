@@ -16,3 +16,6 @@ pub use laws::{no_prefix, one_answer};
 pub use refusal::{Refusal, Why};
 pub use trap::{Trap, TrapView};
 pub use writing::encode;
+
+#[cfg(test)]
+mod tests;

@@ -15,7 +15,7 @@ pub struct Trap {
 }
 
 /// A trap as it stands in octets that were received, which it borrows.
-#[derive(Clone, Copy)]
+#[derive(Clone, Copy, Debug, PartialEq, Eq)]
 pub struct TrapView<'a> {
     /// The community, of any length.
     pub community: &'a [u8],
