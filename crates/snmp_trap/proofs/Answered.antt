@@ -1,5 +1,5 @@
 -- What the grammar and the refusals say of each other.
-use Rattle.std.proofs.Common.{◌≡◌, ◌⊎◌, ℕ, List, [], ◌++◌, Result, Ok, Err, refl, sym, ap, subst, ◌∙◌, inl, inr, append-nil}
+use Rattle.std.proofs.Common.{◌≡◌, ◌⊎◌, ℕ, List, [], ◌++◌, Result, Ok, Err, refl, sym, ap, ◌∙◌, inl, inr, append-nil}
 use Rattle.std.specs.Prelude.{IfOk, IfErr, IsOkAnd, IsErrAnd}
 use Rattle.snmp_trap.specs.declared.refusal.Refusal.{Refusal}
 use Rattle.snmp_trap.specs.declared.refusal.Why.{Why}
@@ -10,7 +10,7 @@ use Rattle.snmp_trap.specs.Laws.{IsOneTrap, IsOneRefusal, IsNoPrefix}
 use Rattle.snmp_trap.specs.Reading.{Gives, read, seen}
 use Rattle.snmp_trap.proofs.Results.{ok_is, err_is, ok-err, either}
 use Rattle.snmp_trap.proofs.Fronts.{front_of, same_front}
-use Rattle.snmp_trap.proofs.Message.{Refused, read_exact}
+use Rattle.snmp_trap.proofs.Message.{read_exact}
 
 pub is_view : (octets : List ℕ) (r : Result TrapView Refusal) → Gives seen r (read octets) → IfOk r (λ v. IsTrap octets (seen v))
 is_view octets (Ok v) given = (read_exact octets).ok (seen v) given

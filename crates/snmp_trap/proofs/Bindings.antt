@@ -1,13 +1,13 @@
 -- The list of bindings is read exactly.
-use Rattle.std.proofs.Common.{◌≡◌, ◌≢◌, ◌⊎◌, ℕ, zero, suc, ◌+◌, ◌%◌, ◌<◌, ◌≤◌, Bool, true, false, not, ◌&&◌, ◌||◌, eqb, List, [], ◌∷◌, ◌++◌, length, Option, Some, None, Result, Ok, Err, refl, sym, ap, subst, ◌∙◌, inl, inr, append_assoc, append-nil, arith}
+use Rattle.std.proofs.Common.{◌≡◌, ℕ, zero, suc, ◌%◌, ◌≤◌, Bool, true, false, not, ◌&&◌, ◌||◌, eqb, List, [], ◌∷◌, ◌++◌, length, Option, Some, None, refl, sym, ap, subst, ◌∙◌, inl, inr, append-nil, arith}
 use Rattle.std.specs.Prelude.{bytes_eq, is_some, Decides}
-use Rattle.std.proofs.lemmas.Bool.{eqb-true, eqb-false, eq-eqb, ne_eqb, not-true, cases_Bool}
+use Rattle.std.proofs.lemmas.Bool.{eqb-true, eqb-false, eq-eqb, ne_eqb, not-true}
 use Rattle.std.proofs.lemmas.Slice.Eq.{bytes_eq-Decides}
 use Rattle.snmp_trap.specs.declared.refusal.Refusal.{Refusal}
 use Rattle.snmp_trap.specs.declared.refusal.Why.TheVariants.{NoBinding}
 use Rattle.snmp_trap.specs.Grammar.{IsElement, IsBody, IsValueTag, Binding, IsBinding, AreBindings, IsBodyOf, body_name}
 use Rattle.snmp_trap.specs.Refusals.{refusal, Front, inside, behind, over, one, any_value, counts, value_tags, RefusesThen, RefusesMore, RefusesNothing, RefusesValue, RefusesBinding, RefusesBindings, RefusesList}
-use Rattle.snmp_trap.specs.Reading.{◌>>=◌, field, ended, contents_at, body_at, value_at, named_at, binding_at, later, bindings_at, list_at}
+use Rattle.snmp_trap.specs.Reading.{ended, contents_at, body_at, value_at, named_at, binding_at, later, bindings_at, list_at}
 use Rattle.snmp_trap.proofs.Results.{either}
 use Rattle.snmp_trap.proofs.Exact.{Exact, exact_as, FieldIs, field_exact}
 use Rattle.snmp_trap.proofs.Elements.{rest_is_shorter}
@@ -26,12 +26,12 @@ value_exact true tag_place at contents =
     let body = body_exact tag_place at contents in
     elim (either (body_at tag_place at contents)) [
       | inl b ↦
-        let h = body.ok b.0 b.1 in
-        let is : IsBody contents = subst IsBody (sym h.0) h.1 in
-        rw b.1 (accepting (Some b.0) _ _ (ap (λ (w : List ℕ). Some w) h.0, is) (λ a g. ap (λ (w : List ℕ). Some w) (sym h.0) ∙ g.0) (λ r row. row.0 is))
+          let h = body.ok b.0 b.1 in
+          let is : IsBody contents = subst IsBody (sym h.0) h.1 in
+          rw b.1 (accepting (Some b.0) _ _ (ap (λ (w : List ℕ). Some w) h.0, is) (λ a g. ap (λ (w : List ℕ). Some w) (sym h.0) ∙ g.0) (λ r row. row.0 is))
       | inr s ↦
-        let row = body.err s.0 s.1 in
-        rw s.1 (refusing s.0 _ _ row (λ r h. row.1 ∙ sym h.1) (λ a h. row.0 h.1))
+          let row = body.err s.0 s.1 in
+          rw s.1 (refusing s.0 _ _ row (λ r h. row.1 ∙ sym h.1) (λ a h. row.0 h.1))
     ]
 
 abbrev EndsWith : List ℕ → Option (List ℕ) → List ℕ → Option (List ℕ) → Type 0
@@ -229,10 +229,10 @@ bindings_exact (suc fuel) list body at (octet ∷ more) le =
     (field_exact over (one 48) (binding_at (is_some body)) (λ _ value after rest. bindings_at fuel list (later value body) after rest) (BindingIs (is_some body)) (ListThen body) (RefusesBinding (is_some body)) (StepRefuses list (is_some body)) at (octet ∷ more)
     (λ front w. binding_exact (is_some body) at (inside at front) front.contents)
     (λ front w value is.
-        exact_as _ _ _ _ _ (bindings_exact fuel list (later value body) (behind at front) front.rest (omega (arith, rest_is_shorter (octet ∷ more) front)))
-        (λ a h. h) (λ a h. h)
-        (λ r h. (h.0, is.front, subst (λ f. RefusesBindings list h.0 f (behind at front) front.rest r) (sym (flag body value front.contents is is.front)) h.1))
-        (λ r h. (h.0, subst (λ f. RefusesBindings list h.0 f (behind at front) front.rest r) (flag body value front.contents is h.1) h.2))))
+    exact_as _ _ _ _ _ (bindings_exact fuel list (later value body) (behind at front) front.rest (omega (arith, rest_is_shorter (octet ∷ more) front)))
+    (λ a h. h) (λ a h. h)
+    (λ r h. (h.0, is.front, subst (λ f. RefusesBindings list h.0 f (behind at front) front.rest r) (sym (flag body value front.contents is is.front)) h.1))
+    (λ r h. (h.0, subst (λ f. RefusesBindings list h.0 f (behind at front) front.rest r) (flag body value front.contents is h.1) h.2))))
     (step_in body (octet ∷ more)) (step_out body octet more) (refuses_in list (is_some body) at octet more) (refuses_out list (is_some body) at octet more)
 
 -- what the list of a trap holds

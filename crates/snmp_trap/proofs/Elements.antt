@@ -1,11 +1,11 @@
 -- The element at the front of octets: reading finds it exactly where it stands, and refuses it exactly as the table says.
-use Rattle.std.proofs.Common.{◌≡◌, ◌≢◌, ◌⊎◌, ℕ, zero, suc, ◌+◌, ◌-◌, ◌<◌, ◌≤◌, Bool, true, false, cond, eqb, ltb, ◌||◌, List, [], ◌∷◌, ◌++◌, length, take, drop, Result, Ok, Err, refl, sym, ap, subst, ◌∙◌, inl, inr, ⊎_elim, arith}
+use Rattle.std.proofs.Common.{◌≡◌, ◌≢◌, ◌⊎◌, ℕ, ◌+◌, ◌-◌, ◌<◌, ◌≤◌, Bool, true, false, cond, eqb, ltb, ◌||◌, List, [], ◌∷◌, ◌++◌, length, take, drop, Ok, Err, refl, sym, ap, subst, ◌∙◌, inl, inr, arith}
 use Rattle.std.proofs.lemmas.Bool.{cases_lt, cases_eq, false≢true, ltb-false, ltb-true, le-ltb, lt-ltb, ne_eqb}
-use Rattle.std.proofs.lemmas.List.{take_at, drop_at, take-append-drop, length-append, length-take, length-drop, append_assoc}
+use Rattle.std.proofs.lemmas.List.{take_at, drop_at, take-append-drop, length-append, length-take}
 use Rattle.snmp_trap.specs.declared.refusal.Refusal.{Refusal}
 use Rattle.snmp_trap.specs.declared.refusal.Why.TheVariants.{Tag, Length}
 use Rattle.snmp_trap.specs.Grammar.{number_of, IsLength}
-use Rattle.snmp_trap.specs.Refusals.{refusal, Front, inside, behind, IsBadLength, RefusesHeader}
+use Rattle.snmp_trap.specs.Refusals.{refusal, Front, inside, IsBadLength, RefusesHeader}
 use Rattle.snmp_trap.specs.Reading.{Part, cut_at, length_at, element_at}
 use Rattle.snmp_trap.proofs.Results.{chosen, ok_is, err_is, ok-err, either}
 
@@ -18,10 +18,10 @@ cut_ok past at start n octets p e =
     elim (chosen (ltb (length octets) n) (Err past) (Ok (record { at = at; inside = start; contents = take n octets; after = start + n; rest = drop n octets })) (Ok p) e) [
       | inl t ↦ absurd (ok-err p past (sym t.1))
       | inr f ↦
-        let long : n ≤ length octets = ltb-false _ _ f.0 in
-        let all : n ≡ length (take n octets) = omega (arith, length-take n octets) in
-        let is : record { at = at; inside = start; contents = take n octets; after = start + n; rest = drop n octets } ≡ p = ok_is _ _ f.1 in
-        (all, sym is ∙ ap (λ k. record { at = at; inside = start; contents = take n octets; after = start + k; rest = drop n octets }) all)
+          let long : n ≤ length octets = ltb-false _ _ f.0 in
+          let all : n ≡ length (take n octets) = omega (arith, length-take n octets) in
+          let is : record { at = at; inside = start; contents = take n octets; after = start + n; rest = drop n octets } ≡ p = ok_is _ _ f.1 in
+          (all, sym is ∙ ap (λ k. record { at = at; inside = start; contents = take n octets; after = start + k; rest = drop n octets }) all)
     ]
 
 cut_again : (past : Refusal) (at start n : ℕ) (contents rest : List ℕ) → n ≡ length contents → cut_at past at start n (contents ++ rest) ≡ Ok (made at start contents rest)
@@ -77,37 +77,37 @@ length_ok past at (first ∷ more) p e =
     let long = cond ((eqb first 128) || ltb 132 first) (Err (refusal (at + 1) Length)) (cond (ltb (length more) (first - 128)) (Err past) (cut_at past at (at + 2 + (first - 128)) (number_of (take (first - 128) more)) (drop (first - 128) more))) in
     elim (chosen (ltb first 128) (cut_at past at (at + 2) first more) long (Ok p) e) [
       | inl t ↦
-        let c = cut_ok past at (at + 2) first more p t.1 in
-        subst (Header at (first ∷ more)) (sym c.1) (record {
-          spelled = first ∷ [];
-          is_length = inl (ltb-true _ _ t.0, refl, sym c.0);
-          parts = ap (λ (w : List ℕ). first ∷ w) (sym (take-append-drop first more));
-          is = ap (λ k. made at k (take first more) (drop first more)) (omega arith);
-        })
+          let c = cut_ok past at (at + 2) first more p t.1 in
+          subst (Header at (first ∷ more)) (sym c.1) (record {
+            spelled = first ∷ [];
+            is_length = inl (ltb-true _ _ t.0, refl, sym c.0);
+            parts = ap (λ (w : List ℕ). first ∷ w) (sym (take-append-drop first more));
+            is = ap (λ k. made at k (take first more) (drop first more)) (omega arith);
+          })
       | inr f ↦
-        let n = first - 128 in
-        let digits = take n more in
-        let behind_digits = drop n more in
-        let short = cond (ltb (length more) n) (Err past) (cut_at past at (at + 2 + n) (number_of digits) behind_digits) in
-        elim (chosen ((eqb first 128) || ltb 132 first) (Err (refusal (at + 1) Length)) short (Ok p) f.1) [
-          | inl t ↦ absurd (ok-err p _ (sym t.1))
-          | inr g ↦
-            elim (chosen (ltb (length more) n) (Err past) (cut_at past at (at + 2 + n) (number_of digits) behind_digits) (Ok p) g.1) [
-              | inl t ↦ absurd (ok-err p _ (sym t.1))
-              | inr h ↦
-                let c = cut_ok past at (at + 2 + n) (number_of digits) behind_digits p h.1 in
-                let above = ltb-false _ _ f.0 in
-                let ends = good_length first g.0 in
-                let enough : n ≤ length more = ltb-false _ _ h.0 in
-                let count : length digits ≡ n = omega (arith, length-take n more) in
-                subst (Header at (first ∷ more)) (sym c.1) (record {
-                  spelled = first ∷ digits;
-                  is_length = inr (omega (arith, count, ends.0, above), omega (arith, count, ends.1), omega (arith, count, above), sym c.0);
-                  parts = ap (λ (w : List ℕ). first ∷ w) (sym (take-append-drop n more) ∙ ap (λ (w : List ℕ). digits ++ w) (sym (take-append-drop (number_of digits) behind_digits)));
-                  is = ap (λ k. made at k (take (number_of digits) behind_digits) (drop (number_of digits) behind_digits)) (omega (arith, count));
-                })
-            ]
-        ]
+          let n = first - 128 in
+          let digits = take n more in
+          let behind_digits = drop n more in
+          let short = cond (ltb (length more) n) (Err past) (cut_at past at (at + 2 + n) (number_of digits) behind_digits) in
+          elim (chosen ((eqb first 128) || ltb 132 first) (Err (refusal (at + 1) Length)) short (Ok p) f.1) [
+            | inl t ↦ absurd (ok-err p _ (sym t.1))
+            | inr g ↦
+                elim (chosen (ltb (length more) n) (Err past) (cut_at past at (at + 2 + n) (number_of digits) behind_digits) (Ok p) g.1) [
+                  | inl t ↦ absurd (ok-err p _ (sym t.1))
+                  | inr h ↦
+                      let c = cut_ok past at (at + 2 + n) (number_of digits) behind_digits p h.1 in
+                      let above = ltb-false _ _ f.0 in
+                      let ends = good_length first g.0 in
+                      let enough : n ≤ length more = ltb-false _ _ h.0 in
+                      let count : length digits ≡ n = omega (arith, length-take n more) in
+                      subst (Header at (first ∷ more)) (sym c.1) (record {
+                        spelled = first ∷ digits;
+                        is_length = inr (omega (arith, count, ends.0, above), omega (arith, count, ends.1), omega (arith, count, above), sym c.0);
+                        parts = ap (λ (w : List ℕ). first ∷ w) (sym (take-append-drop n more) ∙ ap (λ (w : List ℕ). digits ++ w) (sym (take-append-drop (number_of digits) behind_digits)));
+                        is = ap (λ k. made at k (take (number_of digits) behind_digits) (drop (number_of digits) behind_digits)) (omega (arith, count));
+                      })
+                ]
+          ]
     ]
 
 length_again : (past : Refusal) (at : ℕ) (spelled contents rest : List ℕ) → IsLength spelled (length contents) → length_at past at (spelled ++ (contents ++ rest)) ≡ Ok (made at (at + 1 + length spelled) contents rest)
@@ -141,14 +141,14 @@ length_err past at (first ∷ more) r fine e =
     elim (chosen (ltb first 128) (cut_at past at (at + 2) first more) long (Err r) e) [
       | inl t ↦ cut_err past at (at + 2) first more r t.1
       | inr f ↦
-        elim (chosen ((eqb first 128) || ltb 132 first) (Err (refusal (at + 1) Length)) short (Err r) f.1) [
-          | inl t ↦ absurd (fine (bad_length first t.0))
-          | inr g ↦
-            elim (chosen (ltb (length more) n) (Err past) (cut_at past at (at + 2 + n) (number_of (take n more)) (drop n more)) (Err r) g.1) [
-              | inl t ↦ sym (err_is _ _ t.1)
-              | inr h ↦ cut_err past at (at + 2 + n) (number_of (take n more)) (drop n more) r h.1
-            ]
-        ]
+          elim (chosen ((eqb first 128) || ltb 132 first) (Err (refusal (at + 1) Length)) short (Err r) f.1) [
+            | inl t ↦ absurd (fine (bad_length first t.0))
+            | inr g ↦
+                elim (chosen (ltb (length more) n) (Err past) (cut_at past at (at + 2 + n) (number_of (take n more)) (drop n more)) (Err r) g.1) [
+                  | inl t ↦ sym (err_is _ _ t.1)
+                  | inr h ↦ cut_err past at (at + 2 + n) (number_of (take n more)) (drop n more) r h.1
+                ]
+          ]
     ]
 
 bad_or_fine : (octets : List ℕ) → (IsBadLength octets) ⊎ (¬ (IsBadLength octets))
@@ -157,10 +157,10 @@ bad_or_fine (first ∷ more) =
     elim (cases_eq first 128) [
       | inl is ↦ inl (inl is)
       | inr isnt ↦
-        elim (cases_lt 132 first) [
-          | inl lt ↦ inl (inr lt)
-          | inr le ↦ inr (λ bad. elim bad [ inl is ↦ isnt is | inr lt ↦ absurd (omega arith) ])
-        ]
+          elim (cases_lt 132 first) [
+            | inl lt ↦ inl (inr lt)
+            | inr le ↦ inr (λ bad. elim bad [ inl is ↦ isnt is | inr lt ↦ absurd (omega arith) ])
+          ]
     ]
 
 -- ---- elements
@@ -180,8 +180,8 @@ element_ok past wanted at [] p e = absurd (ok-err p past (sym e))
 element_ok past wanted at (tag ∷ more) p e =
     elim (chosen (wanted tag) (length_at past at more) (Err (refusal at Tag)) (Ok p) e) [
       | inl t ↦
-        let h = length_ok past at more p t.1 in
-        (record { tag = tag; spelled = h.spelled; contents = p.contents; rest = p.rest; is_length = h.is_length; parts = ap (λ (w : List ℕ). tag ∷ w) h.parts }, t.0, h.is)
+          let h = length_ok past at more p t.1 in
+          (record { tag = tag; spelled = h.spelled; contents = p.contents; rest = p.rest; is_length = h.is_length; parts = ap (λ (w : List ℕ). tag ∷ w) h.parts }, t.0, h.is)
       | inr f ↦ absurd (ok-err p _ (sym f.1))
     ]
 
@@ -197,10 +197,10 @@ element_err past wanted at (tag ∷ more) r e =
     let reach = past at (tag ∷ more) in
     elim (chosen (wanted tag) (length_at reach at more) (Err (refusal at Tag)) (Err r) e) [
       | inl t ↦
-        elim (bad_or_fine more) [
-          | inl bad ↦ inr (inl (t.0, bad, err_is _ _ (sym t.1 ∙ length_bad reach at more bad)))
-          | inr fine ↦ inr (inr (t.0, fine, (λ front. ok-err _ r (sym (element_again reach wanted at (tag ∷ more) front (ap wanted (sym (heads tag more front)) ∙ t.0)) ∙ e)), length_err reach at more r fine t.1))
-        ]
+          elim (bad_or_fine more) [
+            | inl bad ↦ inr (inl (t.0, bad, err_is _ _ (sym t.1 ∙ length_bad reach at more bad)))
+            | inr fine ↦ inr (inr (t.0, fine, (λ front. ok-err _ r (sym (element_again reach wanted at (tag ∷ more) front (ap wanted (sym (heads tag more front)) ∙ t.0)) ∙ e)), length_err reach at more r fine t.1))
+          ]
       | inr f ↦ inl (f.0, sym (err_is _ _ f.1))
     ]
   where
@@ -216,7 +216,7 @@ element_no past wanted at (tag ∷ more) r (inr (inr far)) =
     let reach = past at (tag ∷ more) in
     rw far.0 (elim (either (length_at reach at more)) [
       | inl ok ↦
-        let h = length_ok reach at more ok.0 ok.1 in
-        absurd (far.2 (record { tag = tag; spelled = h.spelled; contents = ok.0.contents; rest = ok.0.rest; is_length = h.is_length; parts = ap (λ (w : List ℕ). tag ∷ w) h.parts }))
+          let h = length_ok reach at more ok.0 ok.1 in
+          absurd (far.2 (record { tag = tag; spelled = h.spelled; contents = ok.0.contents; rest = ok.0.rest; is_length = h.is_length; parts = ap (λ (w : List ℕ). tag ∷ w) h.parts }))
       | inr err ↦ err.1 ∙ ap (λ d. Err d) (length_err reach at more err.0 far.1 err.1 ∙ sym far.3)
     ])

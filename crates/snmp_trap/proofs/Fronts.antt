@@ -1,11 +1,10 @@
 -- The element at the front of octets, and the grammar's elements.
-use Rattle.std.proofs.Common.{◌≡◌, ◌≢◌, ◌⊎◌, ℕ, ◌+◌, Bool, true, List, [], ◌∷◌, ◌++◌, length, Result, Ok, Err, refl, sym, ap, subst, ◌∙◌, append_assoc, append-nil}
+use Rattle.std.proofs.Common.{◌≡◌, ℕ, true, List, [], ◌∷◌, ◌++◌, refl, sym, ap, subst, ◌∙◌, append_assoc}
 use Rattle.std.proofs.lemmas.Bool.{eqb-true, eq-eqb}
-use Rattle.snmp_trap.specs.declared.refusal.Refusal.{Refusal}
 use Rattle.snmp_trap.specs.declared.refusal.Why.TheVariants.{Over}
 use Rattle.snmp_trap.specs.Grammar.{IsElement}
 use Rattle.snmp_trap.specs.Refusals.{refusal, Front, one}
-use Rattle.snmp_trap.specs.Reading.{Part, element_at}
+use Rattle.snmp_trap.specs.Reading.{Part}
 use Rattle.snmp_trap.proofs.Results.{ok_is}
 use Rattle.snmp_trap.proofs.Elements.{part_of, element_again}
 
@@ -32,6 +31,7 @@ front_of first tag contents rest octets e is = record {
   is_length = e.is_length;
   parts = is ∙ ap (λ (w : List ℕ). w ++ rest) e.parts ∙ append_assoc (tag ∷ e.spelled) contents rest;
 }
+
 pub is_wanted : (tag : ℕ) → one tag tag ≡ true
 is_wanted tag = eq-eqb tag tag refl
 

@@ -1,7 +1,7 @@
 -- Each element that holds no others is read exactly.
-use Rattle.std.proofs.Common.{◌≡◌, ◌≢◌, ◌⊎◌, ℕ, zero, suc, ◌+◌, ◌^◌, ◌<◌, ◌≤◌, Bool, true, false, cond, eqb, ltb, ◌||◌, List, [], ◌∷◌, length, Option, Some, None, Result, Ok, Err, refl, sym, ap, subst, ◌∙◌, inl, inr, arith}
+use Rattle.std.proofs.Common.{◌≡◌, ◌≢◌, ℕ, ◌+◌, ◌^◌, ◌<◌, ◌≤◌, true, false, eqb, ltb, ◌||◌, List, [], ◌∷◌, length, Ok, Err, refl, sym, ap, subst, ◌∙◌, inl, inr, arith}
 use Rattle.std.specs.Prelude.{bytes_eq}
-use Rattle.std.proofs.lemmas.Bool.{cases_Bool, cases_lt, cases_eq, ltb-false, ltb-true, le-ltb, lt-ltb, eqb-true, eq-eqb, ne_eqb}
+use Rattle.std.proofs.lemmas.Bool.{cases_Bool, cases_lt, cases_eq, ltb-false, le-ltb, lt-ltb, eq-eqb, ne_eqb}
 use Rattle.std.proofs.lemmas.Slice.Eq.{bytes_eq-Decides}
 use Rattle.snmp_trap.specs.declared.refusal.Refusal.{Refusal}
 use Rattle.snmp_trap.specs.declared.refusal.Why.{Why}
@@ -65,15 +65,15 @@ number_exact tag_place at contents =
     elim (cases_Bool ((eqb (length contents) 0) || ltb 5 (length contents))) [
       | inl odd ↦ rw odd (refusing (refusal tag_place Integer) _ _ (no_number contents odd, refl) (λ r h. sym h.1) (no_number contents odd))
       | inr even ↦
-        let size = right_size contents even in
-        elim (cases_lt (number_of contents) (2 ^ 32)) [
-          | inl lt ↦
-            let is : IsNumber contents (number_of contents) = record { some = size.0; few = size.1; value = refl; fits = lt } in
-            rw (even, lt-ltb _ _ lt) (accepting (number_of contents) _ _ is (λ a h. sym h.value) (λ r h. h.0 (number_of contents) is))
-          | inr ge ↦
-            let none : (n : ℕ) → ¬ (IsNumber contents n) = λ n h. too_great (number_of contents) n ge h.value h.fits in
-            rw (even, le-ltb _ _ ge) (refusing (refusal tag_place Integer) _ _ (none, refl) (λ r h. sym h.1) none)
-        ]
+          let size = right_size contents even in
+          elim (cases_lt (number_of contents) (2 ^ 32)) [
+            | inl lt ↦
+                let is : IsNumber contents (number_of contents) = record { some = size.0; few = size.1; value = refl; fits = lt } in
+                rw (even, lt-ltb _ _ lt) (accepting (number_of contents) _ _ is (λ a h. sym h.value) (λ r h. h.0 (number_of contents) is))
+            | inr ge ↦
+                let none : (n : ℕ) → ¬ (IsNumber contents n) = λ n h. too_great (number_of contents) n ge h.value h.fits in
+                rw (even, le-ltb _ _ ge) (refusing (refusal tag_place Integer) _ _ (none, refl) (λ r h. sym h.1) none)
+          ]
     ]
   where
     too_great : (m n : ℕ) → 2 ^ 32 ≤ m → n ≡ m → n < 2 ^ 32 → ⊥
@@ -86,8 +86,8 @@ enterprise_exact tag_place at contents =
     elim (cases_Bool (bytes_eq contents pet_enterprise)) [
       | inl same ↦ rw same (accepting tt _ _ (decides.0 same) (λ a h. refl) (λ r h. h.0 (decides.0 same)))
       | inr other ↦
-        let differs : contents ≢ pet_enterprise = λ is. apart (sym other ∙ decides.1 is) in
-        rw other (refusing (refusal tag_place Enterprise) _ _ (differs, refl) (λ r h. sym h.1) (λ a h. differs h))
+          let differs : contents ≢ pet_enterprise = λ is. apart (sym other ∙ decides.1 is) in
+          rw other (refusing (refusal tag_place Enterprise) _ _ (differs, refl) (λ r h. sym h.1) (λ a h. differs h))
     ]
   where
     apart : false ≡ true → ⊥
@@ -107,12 +107,12 @@ body_exact tag_place at contents =
     elim (cases_lt (length contents) 46) [
       | inl few ↦ rw (lt-ltb _ _ few) (refuses (λ h. absurd (omega (arith, h.least))))
       | inr enough ↦
-        elim (cases_lt 110 (length contents)) [
-          | inl many ↦ rw (le-ltb _ _ enough, lt-ltb _ _ many) (refuses (λ h. absurd (omega (arith, h.most))))
-          | inr le ↦
-            let is : IsBody contents = record { least = enough; most = le } in
-            rw (le-ltb _ _ enough, le-ltb _ _ le) (accepting contents _ _ (refl, is) (λ a h. h.0) (λ r h. h.0 is))
-        ]
+          elim (cases_lt 110 (length contents)) [
+            | inl many ↦ rw (le-ltb _ _ enough, lt-ltb _ _ many) (refuses (λ h. absurd (omega (arith, h.most))))
+            | inr le ↦
+                let is : IsBody contents = record { least = enough; most = le } in
+                rw (le-ltb _ _ enough, le-ltb _ _ le) (accepting contents _ _ (refl, is) (λ a h. h.0) (λ r h. h.0 is))
+          ]
     ]
   where
     refuses : ¬ (IsBody contents) → Exact (Err (refusal tag_place Body)) (λ body. (contents ≡ body) × IsBody body) (RefusesBody tag_place at contents)
@@ -128,16 +128,16 @@ this_exact wanted why tag_place at contents =
     let number = number_exact tag_place at contents in
     elim (either (number_at tag_place at contents)) [
       | inr none ↦
-        let row = number.err none.0 none.1 in
-        rw none.1 (refusing none.0 _ _ (inl row) (λ r h. only none.0 r row h) (λ a h. row.0 wanted h))
+          let row = number.err none.0 none.1 in
+          rw none.1 (refusing none.0 _ _ (inl row) (λ r h. only none.0 r row h) (λ a h. row.0 wanted h))
       | inl n ↦
-        let is = number.ok n.0 n.1 in
-        elim (cases_eq n.0 wanted) [
-          | inl same ↦
-            let found : IsNumber contents wanted = subst (IsNumber contents) same is in
-            rw (n.1, eq-eqb _ _ same) (accepting tt _ _ found (λ a h. refl) (λ r h. none_left found r h))
-          | inr other ↦ rw (n.1, ne_eqb _ _ other) (refusing (refusal tag_place why) _ _ (inr (n.0, is, other, refl)) (λ r h. only_other n.0 is r h) (λ a h. other (same_number contents n.0 wanted is h)))
-        ]
+          let is = number.ok n.0 n.1 in
+          elim (cases_eq n.0 wanted) [
+            | inl same ↦
+                let found : IsNumber contents wanted = subst (IsNumber contents) same is in
+                rw (n.1, eq-eqb _ _ same) (accepting tt _ _ found (λ a h. refl) (λ r h. none_left found r h))
+            | inr other ↦ rw (n.1, ne_eqb _ _ other) (refusing (refusal tag_place why) _ _ (inr (n.0, is, other, refl)) (λ r h. only_other n.0 is r h) (λ a h. other (same_number contents n.0 wanted is h)))
+          ]
     ]
   where
     only : (s r : Refusal) → RefusesNumber tag_place at contents s → RefusesOther wanted why tag_place at contents r → s ≡ r

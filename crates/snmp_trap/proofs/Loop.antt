@@ -2,7 +2,6 @@
 use Rattle.std.proofs.Common.{Bor, Bool, ◌≡◌, ◌≢◌, ℕ, zero, suc, ◌<◌, ◌≤◌, List, [], ◌∷◌, length, Option, Some, None, Result, Ok, Err, refl, sym, ap, subst, ◌∙◌, arith}
 use Rattle.std.specs.Prelude.{is_some, ok_or, option_map}
 use Rattle.std.specs.Option.{option_or}
-use Rattle.std.proofs.lemmas.List.{nil_from_length}
 use Rattle.snmp_trap.specs.declared.refusal.Refusal.{Refusal}
 use Rattle.snmp_trap.specs.declared.refusal.Why.TheVariants.{NoBinding}
 use Rattle.snmp_trap.specs.Refusals.{refusal, over, one}

@@ -1,11 +1,10 @@
 -- The whole message is read exactly.
-use Rattle.std.proofs.Common.{◌≡◌, ℕ, Bool, List, [], ◌∷◌, ◌++◌, length, Result, Ok, Err, refl, sym, ap, subst, ◌∙◌, append_assoc, append-nil}
+use Rattle.std.proofs.Common.{◌≡◌, ℕ, List, [], ◌++◌, length, Result, refl, sym, ap, subst, ◌∙◌, append-nil}
 use Rattle.snmp_trap.specs.declared.refusal.Refusal.{Refusal}
-use Rattle.snmp_trap.specs.declared.refusal.Why.{Why}
 use Rattle.snmp_trap.specs.declared.refusal.Why.TheVariants.{Version, Generic}
-use Rattle.snmp_trap.specs.Grammar.{IsElement, IsNumber, IsNumberElement, pet_enterprise, Seen, IsTrapPart, IsTrap}
-use Rattle.snmp_trap.specs.Refusals.{refusal, Front, inside, behind, over, truncated, one, RefusesThen, RefusesMore, RefusesNothing, RefusesNumber, RefusesOther, RefusesEnterprise, RefusesAgent, RefusesList, RefusesTrapPart, RefusesMessage, RefusedTrap}
-use Rattle.snmp_trap.specs.Reading.{◌>>=◌, field, ended, contents_at, number_at, this_at, enterprise_at, agent_at, list_at, trap_part_at, message_at, read}
+use Rattle.snmp_trap.specs.Grammar.{IsElement, IsNumber, pet_enterprise, Seen, IsTrapPart, IsTrap}
+use Rattle.snmp_trap.specs.Refusals.{Front, inside, behind, over, truncated, one, RefusesThen, RefusesMore, RefusesNothing, RefusesNumber, RefusesOther, RefusesEnterprise, RefusesAgent, RefusesList, RefusesTrapPart, RefusesMessage, RefusedTrap}
+use Rattle.snmp_trap.specs.Reading.{field, ended, contents_at, number_at, this_at, enterprise_at, agent_at, list_at, trap_part_at, message_at, read}
 use Rattle.snmp_trap.proofs.Exact.{Exact, exact_as, FieldIs, field_exact}
 use Rattle.snmp_trap.proofs.Leaves.{ended_exact, contents_exact, number_exact, this_exact, enterprise_exact, agent_exact}
 use Rattle.snmp_trap.proofs.Fronts.{element_of, is_one, splits, front_of, is_wanted}

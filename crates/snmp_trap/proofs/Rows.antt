@@ -1,7 +1,7 @@
 -- The definitions at one message, octet by octet: a fan below its lower critical threshold.
-use Rattle.std.proofs.Common.{◌≡◌, ℕ, List, [], ◌∷◌, ◌++◌, take, Ok, Err, refl, subst, arith}
+use Rattle.std.proofs.Common.{◌≡◌, ℕ, List, [], ◌∷◌, ◌++◌, take, refl, subst, arith}
 use Rattle.snmp_trap.specs.declared.refusal.Why.TheVariants.{Truncated, Length, Trailing}
-use Rattle.snmp_trap.specs.Grammar.{Seen, IsTrap, IsBody}
+use Rattle.snmp_trap.specs.Grammar.{Seen, IsTrap}
 use Rattle.snmp_trap.specs.Refusals.{refusal, RefusedTrap}
 use Rattle.snmp_trap.specs.Shortest.{Shortest, HasSpelling}
 use Rattle.snmp_trap.specs.Reading.{element_at, length_at, cut_at, number_at, this_at, enterprise_at, agent_at, body_at, named_at, binding_at, bindings_at, trap_part_at, message_at, read}

@@ -1,6 +1,6 @@
 -- Lengths and numbers in the fewest octets.
-use Rattle.std.proofs.Common.{◌≡◌, ◌≢◌, ◌⊎◌, ℕ, zero, suc, ◌+◌, ◌-◌, ◌*◌, ◌/◌, ◌%◌, ◌^◌, ◌<◌, ◌≤◌, Bool, true, false, ltb, List, [], ◌∷◌, ◌++◌, length, refl, sym, ap, subst, ◌∙◌, inl, inr, arith}
-use Rattle.std.proofs.Math.Nat.{pow-le-pow_right, mul-le-mul, mul-le-mul_right, pow-suc}
+use Rattle.std.proofs.Common.{◌≡◌, ℕ, suc, ◌*◌, ◌/◌, ◌%◌, ◌^◌, ◌<◌, ◌≤◌, List, [], ◌∷◌, length, refl, sym, ◌∙◌, inl, inr, arith}
+use Rattle.std.proofs.Math.Nat.{pow-le-pow_right, mul-le-mul_right, pow-suc}
 use Rattle.std.proofs.lemmas.Bool.{cases_lt, lt-ltb, le-ltb}
 use Rattle.snmp_trap.specs.Grammar.{IsLength, IsElement, IsNumber, number_of}
 use Rattle.snmp_trap.specs.Shortest.{AreOctets, IsShortestLength, FirstBitIsZero, IsShortestNumber, IsShortElement, IsShortNumberElement}
@@ -124,18 +124,18 @@ spelled_number n lt =
     elim (cases_lt n (2 ^ 7)) [
       | inl a ↦ record { more = 0; few = omega arith; count = rw (lt-ltb _ _ a) refl; spells = rw (lt-ltb _ _ a) (one_octet n a) }
       | inr a ↦
-        elim (cases_lt n (2 ^ 15)) [
-          | inl b ↦ record { more = 1; few = omega arith; count = rw (le-ltb _ _ a, lt-ltb _ _ b) refl; spells = rw (le-ltb _ _ a, lt-ltb _ _ b) (two_octets n a b) }
-          | inr b ↦
-            elim (cases_lt n (2 ^ 23)) [
-              | inl d ↦ record { more = 2; few = omega arith; count = rw (le-ltb _ _ a, le-ltb _ _ b, lt-ltb _ _ d) refl; spells = rw (le-ltb _ _ a, le-ltb _ _ b, lt-ltb _ _ d) (three_octets n b d) }
-              | inr d ↦
-                elim (cases_lt n (2 ^ 31)) [
-                  | inl e ↦ record { more = 3; few = omega arith; count = rw (le-ltb _ _ a, le-ltb _ _ b, le-ltb _ _ d, lt-ltb _ _ e) refl; spells = rw (le-ltb _ _ a, le-ltb _ _ b, le-ltb _ _ d, lt-ltb _ _ e) (four_octets n d e) }
-                  | inr e ↦ record { more = 4; few = omega arith; count = rw (le-ltb _ _ a, le-ltb _ _ b, le-ltb _ _ d, le-ltb _ _ e) refl; spells = rw (le-ltb _ _ a, le-ltb _ _ b, le-ltb _ _ d, le-ltb _ _ e) (five_octets n e lt) }
+          elim (cases_lt n (2 ^ 15)) [
+            | inl b ↦ record { more = 1; few = omega arith; count = rw (le-ltb _ _ a, lt-ltb _ _ b) refl; spells = rw (le-ltb _ _ a, lt-ltb _ _ b) (two_octets n a b) }
+            | inr b ↦
+                elim (cases_lt n (2 ^ 23)) [
+                  | inl d ↦ record { more = 2; few = omega arith; count = rw (le-ltb _ _ a, le-ltb _ _ b, lt-ltb _ _ d) refl; spells = rw (le-ltb _ _ a, le-ltb _ _ b, lt-ltb _ _ d) (three_octets n b d) }
+                  | inr d ↦
+                      elim (cases_lt n (2 ^ 31)) [
+                        | inl e ↦ record { more = 3; few = omega arith; count = rw (le-ltb _ _ a, le-ltb _ _ b, le-ltb _ _ d, lt-ltb _ _ e) refl; spells = rw (le-ltb _ _ a, le-ltb _ _ b, le-ltb _ _ d, lt-ltb _ _ e) (four_octets n d e) }
+                        | inr e ↦ record { more = 4; few = omega arith; count = rw (le-ltb _ _ a, le-ltb _ _ b, le-ltb _ _ d, le-ltb _ _ e) refl; spells = rw (le-ltb _ _ a, le-ltb _ _ b, le-ltb _ _ d, le-ltb _ _ e) (five_octets n e lt) }
+                      ]
                 ]
-            ]
-        ]
+          ]
     ]
 
 pub shortest_number : (n : ℕ) → n < 2 ^ 32 → IsShortestNumber (number_octets n) n

@@ -1,9 +1,9 @@
 -- What is written is the shortest spelling, and is read again.
-use Rattle.std.proofs.Common.{◌≡◌, ◌⊎◌, ℕ, ◌+◌, ◌-◌, ◌^◌, ◌<◌, ◌≤◌, Bool, cond, ltb, List, [], ◌∷◌, ◌++◌, length, refl, sym, ap, subst, ◌∙◌, inl, inr, append_assoc, append-nil, arith, ◌%◌}
+use Rattle.std.proofs.Common.{◌≡◌, ℕ, ◌+◌, ◌^◌, ◌<◌, ◌≤◌, List, [], ◌∷◌, ◌++◌, length, refl, sym, ap, ◌∙◌, inl, inr, append_assoc, append-nil, arith, ◌%◌}
 use Rattle.std.proofs.lemmas.Bool.{cases_lt, lt-ltb, le-ltb}
 use Rattle.std.proofs.lemmas.List.{length-append}
-use Rattle.snmp_trap.specs.Grammar.{IsElement, IsNumberElement, IsBody, IsBodyOf, AreBindings, Binding, IsBinding, Seen, IsTrapPart, IsTrap, pet_enterprise, body_name}
-use Rattle.snmp_trap.specs.Shortest.{IsShortElement, IsShortNumberElement, IsShortList, IsShortTrapPart, Shortest, HasSpelling}
+use Rattle.snmp_trap.specs.Grammar.{IsNumberElement, IsBody, Binding, Seen, IsTrapPart, IsTrap, pet_enterprise, body_name}
+use Rattle.snmp_trap.specs.Shortest.{IsShortNumberElement, IsShortTrapPart, Shortest, HasSpelling}
 use Rattle.snmp_trap.specs.Spelling.{length_octets, element, number_length, number_octets, number_element, list, trap_part, spelling}
 use Rattle.snmp_trap.proofs.Shorter.{short_element, short_number, length-number_octets, number_length-fits, read_element, read_number}
 
@@ -143,14 +143,20 @@ read_trap_part v octets fits is =
       contents = l.binding;
       bindings = body_binding v.body ∷ [];
       is_list = read_element is.list 48 l.binding l.is_list;
-      are_bindings = (l.binding, [], sym (append-nil l.binding), record {
-        name = l.name;
-        value = l.value;
-        whole = read_element l.binding 48 (l.name ++ l.value) l.is_binding;
-        is_name = read_element l.name 6 body_name l.is_name;
-        is_value = read_element l.value 4 v.body l.is_value;
-        allowed = λ e. absurd (four_is_no_31 e);
-      }, refl);
+      are_bindings = (
+        l.binding,
+        [],
+        sym (append-nil l.binding),
+        record {
+          name = l.name;
+          value = l.value;
+          whole = read_element l.binding 48 (l.name ++ l.value) l.is_binding;
+          is_name = read_element l.name 6 body_name l.is_name;
+          is_value = read_element l.value 4 v.body l.is_value;
+          allowed = λ e. absurd (four_is_no_31 e);
+        },
+        refl,
+      );
       is_body = inl (refl, refl, refl, fits.body);
     }
   where
@@ -193,14 +199,14 @@ four_are_enough n lt =
     elim (cases_lt n (2 ^ 7)) [
       | inl a ↦ rw (lt-ltb _ _ a) (omega arith)
       | inr a ↦
-        elim (cases_lt n (2 ^ 15)) [
-          | inl b ↦ rw (le-ltb _ _ a, lt-ltb _ _ b) (omega arith)
-          | inr b ↦
-            elim (cases_lt n (2 ^ 23)) [
-              | inl d ↦ rw (le-ltb _ _ a, le-ltb _ _ b, lt-ltb _ _ d) (omega arith)
-              | inr d ↦ let e : n < 2 ^ 31 = omega arith in rw (le-ltb _ _ a, le-ltb _ _ b, le-ltb _ _ d, lt-ltb _ _ e) (omega arith)
-            ]
-        ]
+          elim (cases_lt n (2 ^ 15)) [
+            | inl b ↦ rw (le-ltb _ _ a, lt-ltb _ _ b) (omega arith)
+            | inr b ↦
+                elim (cases_lt n (2 ^ 23)) [
+                  | inl d ↦ rw (le-ltb _ _ a, le-ltb _ _ b, lt-ltb _ _ d) (omega arith)
+                  | inr d ↦ let e : n < 2 ^ 31 = omega arith in rw (le-ltb _ _ a, le-ltb _ _ b, le-ltb _ _ d, lt-ltb _ _ e) (omega arith)
+                ]
+          ]
     ]
 
 pub length-spelling : (v : Seen) → HasSpelling v → length v.community ≤ 18 → v.specific < 2 ^ 24 → length (spelling v) ≤ 190

@@ -1,7 +1,6 @@
 -- What a trap message is: RFC 1157, sections 4 and 4.1.6, spelled by the basic encoding rules (X.690, section 8.1),
 -- with the enterprise and the one binding of PET 1.0. Octets are a concatenation of elements.
 use Rattle.std.specs.Prelude.{◌≡◌, ◌≢◌, ◌⊎◌, ℕ, ◌+◌, ◌*◌, ◌%◌, ◌^◌, ◌<◌, ◌≤◌, List, [], ◌∷◌, ◌++◌, length}
-use Rattle.std.specs.List.{AllByRecursion}
 
 -- the number of these octets, the most significant first
 abbrev pub number_of : List ℕ → ℕ

@@ -1,5 +1,5 @@
 -- How the grammar and the refusals stand to each other.
-use Rattle.std.specs.Prelude.{◌≡◌, ◌⊎◌, ℕ, List, [], ◌++◌}
+use Rattle.std.specs.Prelude.{◌≡◌, ℕ, List, [], ◌++◌}
 use Rattle.snmp_trap.specs.declared.refusal.Why.{Why}
 use Rattle.snmp_trap.specs.Grammar.{Seen, IsTrap}
 use Rattle.snmp_trap.specs.Refusals.{RefusedTrap}

@@ -1,5 +1,5 @@
 -- Reading from the front as a function: what stands there, or the first refusal. The grammar and the refusals don't know it.
-use Rattle.std.specs.Prelude.{◌≡◌, ℕ, zero, suc, ◌+◌, ◌-◌, ◌^◌, Bool, true, false, ◌&&◌, ◌||◌, List, [], ◌∷◌, length, take, drop, nat_lt, nat_le, ◌==◌, if◌then◌else◌, Option, Some, None, is_some, Result, Ok, Err, bytes_eq}
+use Rattle.std.specs.Prelude.{◌≡◌, ℕ, zero, suc, ◌+◌, ◌-◌, ◌^◌, Bool, true, false, ◌||◌, List, [], ◌∷◌, length, take, drop, nat_lt, ◌==◌, if◌then◌else◌, Option, Some, None, is_some, Result, Ok, Err, bytes_eq}
 use Rattle.snmp_trap.specs.declared.refusal.Refusal.{Refusal}
 use Rattle.snmp_trap.specs.declared.refusal.Why.{Why}
 use Rattle.snmp_trap.specs.declared.refusal.Why.TheVariants.{Tag, Length, Over, Trailing, Integer, Version, Enterprise, Generic, NoBinding, Body}

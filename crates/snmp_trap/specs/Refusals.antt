@@ -1,6 +1,6 @@
 -- Why octets are no trap message, and where: the elements are taken in the order in which they stand, each one's header
 -- before its contents. On all before none of the rows holds, and of the rows on the next one the first counts.
-use Rattle.std.specs.Prelude.{◌≡◌, ◌≢◌, ◌⊎◌, ℕ, zero, suc, ◌+◌, ◌%◌, ◌<◌, ◌≤◌, Bool, true, false, not, ◌&&◌, ◌||◌, List, [], ◌∷◌, ◌++◌, length, ◌==◌, bytes_eq}
+use Rattle.std.specs.Prelude.{◌≡◌, ◌≢◌, ◌⊎◌, ℕ, zero, suc, ◌+◌, ◌%◌, ◌<◌, Bool, true, false, not, ◌&&◌, ◌||◌, List, [], ◌∷◌, ◌++◌, length, ◌==◌, bytes_eq}
 use Rattle.snmp_trap.specs.declared.refusal.Refusal.{Refusal}
 use Rattle.snmp_trap.specs.declared.refusal.Why.{Why}
 use Rattle.snmp_trap.specs.declared.refusal.Why.TheVariants.{Truncated, Tag, Length, Over, Trailing, Integer, Version, Enterprise, Generic, NoBinding, Body}

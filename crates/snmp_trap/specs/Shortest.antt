@@ -1,7 +1,7 @@
 -- The shortest spelling of a trap: shortest lengths, shortest numbers and the one binding.
-use Rattle.std.specs.Prelude.{◌≡◌, ℕ, ◌+◌, ◌<◌, ◌≤◌, ◌^◌, List, [], ◌∷◌, ◌++◌, length}
+use Rattle.std.specs.Prelude.{◌≡◌, ℕ, ◌<◌, ◌≤◌, ◌^◌, List, [], ◌∷◌, ◌++◌, length}
 use Rattle.std.specs.List.{AllByRecursion}
-use Rattle.snmp_trap.specs.Grammar.{IsLength, IsElement, IsBody, number_of, pet_enterprise, body_name, Seen}
+use Rattle.snmp_trap.specs.Grammar.{IsLength, IsBody, number_of, pet_enterprise, body_name, Seen}
 
 abbrev pub AreOctets : List ℕ → Type 0
 AreOctets octets = AllByRecursion (λ octet. octet < 256) octets

@@ -1,5 +1,5 @@
 -- The octets that are written. Each length is below 256.
-use Rattle.std.specs.Prelude.{◌≡◌, ℕ, ◌-◌, ◌^◌, List, [], ◌∷◌, ◌++◌, length, drop, nat_lt, if◌then◌else◌}
+use Rattle.std.specs.Prelude.{ℕ, ◌-◌, ◌^◌, List, [], ◌∷◌, ◌++◌, length, drop, nat_lt, if◌then◌else◌}
 use Rattle.std.specs.Int.{w32, to_be_bytes}
 use Rattle.snmp_trap.specs.declared.trap.Trap.{Trap}
 use Rattle.snmp_trap.specs.Grammar.{pet_enterprise, body_name, Seen}

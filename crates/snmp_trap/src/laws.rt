@@ -5,11 +5,9 @@ ghost use Rattle.snmp_trap.specs.Laws.{IsOneTrap, IsOneRefusal, IsNoPrefix};
 /// Any octets are a trap message in one way, or are refused for one reason at one place, and never both.
 pub fn one_answer()
     ensures { (octets : List ℕ) → IsOneTrap octets ⊎ IsOneRefusal octets }
-{
-}
+{}
 
 /// No trap message begins another, so it is known where one ends.
 pub fn no_prefix()
     ensures { (octets rest : List ℕ) → IsNoPrefix octets rest }
-{
-}
+{}

@@ -2,17 +2,17 @@
 #![tactic(auto)]
 
 mod contents;
-mod reading;
 mod element;
-mod writing;
 mod laws;
 mod number;
 mod reader;
+mod reading;
 mod refusal;
 mod trap;
+mod writing;
 
-pub use reading::decode;
 pub use laws::{no_prefix, one_answer};
+pub use reading::decode;
 pub use refusal::{Refusal, Why};
 pub use trap::{Trap, TrapView};
 pub use writing::encode;

@@ -33,7 +33,11 @@ impl<'a> Reader<'a> {
 
     /// The same, with what is refused where the element reaches too far.
     #[tactic(auto, unfolding(crate::specs::Reading::element_at))]
-    pub fn element_or(self, wanted: Tags, past: Refusal) -> Result<(Element<'a>, Reader<'a>), Refusal>
+    pub fn element_or(
+        self,
+        wanted: Tags,
+        past: Refusal,
+    ) -> Result<(Element<'a>, Reader<'a>), Refusal>
         ensures { Gives part result (element_at past (wanted_by wanted) self.entry.at self.entry.octets.now) }
     {
         match self.octets {
@@ -68,7 +72,11 @@ impl<'a> Reader<'a> {
 
 /// The length octets behind the tag at `at`, and so many octets.
 #[tactic(auto, unfolding(crate::specs::Reading::length_at))]
-fn length<'a>(at: usize, octets: &'a [u8], past: Refusal) -> Result<(Element<'a>, Reader<'a>), Refusal>
+fn length<'a>(
+    at: usize,
+    octets: &'a [u8],
+    past: Refusal,
+) -> Result<(Element<'a>, Reader<'a>), Refusal>
     requires { at + 1 + length octets.now < 2 ^ 64 }
     ensures { Gives part result (length_at past at octets.now) }
 {
@@ -87,7 +95,13 @@ fn length<'a>(at: usize, octets: &'a [u8], past: Refusal) -> Result<(Element<'a>
                 Err(past)
             } else {
                 let (digits, rest) = more.split_at(first - 0x80);
-                cut(at, at + 2 + (first - 0x80), number_of(digits) as usize, rest, past)
+                cut(
+                    at,
+                    at + 2 + (first - 0x80),
+                    number_of(digits) as usize,
+                    rest,
+                    past,
+                )
             }
         }
     }
@@ -95,7 +109,13 @@ fn length<'a>(at: usize, octets: &'a [u8], past: Refusal) -> Result<(Element<'a>
 
 /// `count` octets of contents, and what stands behind them.
 #[tactic(auto, unfolding(crate::specs::Reading::cut_at))]
-fn cut<'a>(at: usize, inside: usize, count: usize, octets: &'a [u8], past: Refusal) -> Result<(Element<'a>, Reader<'a>), Refusal>
+fn cut<'a>(
+    at: usize,
+    inside: usize,
+    count: usize,
+    octets: &'a [u8],
+    past: Refusal,
+) -> Result<(Element<'a>, Reader<'a>), Refusal>
     requires behind_tag { at < inside }
     requires in_input { inside + length octets.now < 2 ^ 64 }
     ensures { Gives part result (cut_at past at inside count octets.now) }

@@ -11,11 +11,17 @@ use crate::refusal::{Refusal, Why};
 use crate::trap::TrapView;
 
 const INTEGER: Tags = Tags::One(0x02);
+
 const OCTET_STRING: Tags = Tags::One(0x04);
+
 const OBJECT_IDENTIFIER: Tags = Tags::One(0x06);
+
 const SEQUENCE: Tags = Tags::One(0x30);
+
 const NETWORK_ADDRESS: Tags = Tags::One(0x40);
+
 const TIME_TICKS: Tags = Tags::One(0x43);
+
 const TRAP: Tags = Tags::One(0xA4);
 
 /// What stands behind a binding's name: a body where the name counts, else any value.

@@ -17,16 +17,27 @@ const VECTOR: [u8; 108] = [
 
 /// Where the vector's elements stand.
 const VERSION: usize = 2;
+
 const COMMUNITY: usize = 5;
+
 const TRAP: usize = 13;
+
 const ENTERPRISE: usize = 15;
+
 const AGENT: usize = 26;
+
 const GENERIC: usize = 32;
+
 const SPECIFIC: usize = 35;
+
 const TICKS: usize = 40;
+
 const LIST: usize = 43;
+
 const BINDING: usize = 45;
+
 const NAME: usize = 47;
+
 const VALUE: usize = 59;
 
 /// The first `kept` octets of the vector with these changes, and then the tail.
@@ -162,14 +173,54 @@ fn refuses_what_is_cut_or_followed(rt: HostRuntime) {
     let after = [
         // Behind the message, in it, in the trap, in the list and in the binding.
         ([NONE, NONE, NONE, NONE], [0x00, 0x00], Why::Trailing, 108),
-        ([(1, 0x6C), NONE, NONE, NONE], [0x00, 0x00], Why::Trailing, 108),
-        ([(1, 0x6C), (14, 0x5F), NONE, NONE], [0x00, 0x00], Why::Trailing, 108),
-        ([(1, 0x6C), (14, 0x5F), (44, 0x41), NONE], [0x00, 0x00], Why::Tag, 108),
-        ([(1, 0x6C), (14, 0x5F), (44, 0x41), NONE], [0x30, 0x80], Why::Length, 109),
-        ([(1, 0x6C), (14, 0x5F), (44, 0x41), NONE], [0x30, 0x01], Why::Over, 108),
-        ([(1, 0x6C), (14, 0x5F), (44, 0x41), NONE], [0x30, 0x81], Why::Over, 108),
-        ([(1, 0x6C), (14, 0x5F), (44, 0x41), NONE], [0x30, 0x00], Why::Over, 110),
-        ([(1, 0x6C), (14, 0x5F), (44, 0x41), (46, 0x3F)], [0x00, 0x00], Why::Trailing, 108),
+        (
+            [(1, 0x6C), NONE, NONE, NONE],
+            [0x00, 0x00],
+            Why::Trailing,
+            108,
+        ),
+        (
+            [(1, 0x6C), (14, 0x5F), NONE, NONE],
+            [0x00, 0x00],
+            Why::Trailing,
+            108,
+        ),
+        (
+            [(1, 0x6C), (14, 0x5F), (44, 0x41), NONE],
+            [0x00, 0x00],
+            Why::Tag,
+            108,
+        ),
+        (
+            [(1, 0x6C), (14, 0x5F), (44, 0x41), NONE],
+            [0x30, 0x80],
+            Why::Length,
+            109,
+        ),
+        (
+            [(1, 0x6C), (14, 0x5F), (44, 0x41), NONE],
+            [0x30, 0x01],
+            Why::Over,
+            108,
+        ),
+        (
+            [(1, 0x6C), (14, 0x5F), (44, 0x41), NONE],
+            [0x30, 0x81],
+            Why::Over,
+            108,
+        ),
+        (
+            [(1, 0x6C), (14, 0x5F), (44, 0x41), NONE],
+            [0x30, 0x00],
+            Why::Over,
+            110,
+        ),
+        (
+            [(1, 0x6C), (14, 0x5F), (44, 0x41), (46, 0x3F)],
+            [0x00, 0x00],
+            Why::Trailing,
+            108,
+        ),
     ];
     for (changes, tail, why, at) in after {
         let octets = changed(108, &changes, &tail);
@@ -251,7 +302,13 @@ fn reads_bodies_of_46_to_110_octets(rt: HostRuntime) {
             }
             Err(refusal) => {
                 assert!(rt; !fits);
-                assert_eq!(rt; refusal, Refusal { at: 61, why: Why::Body });
+                assert_eq!(rt;
+                    refusal,
+                    Refusal {
+                        at: 61,
+                        why: Why::Body
+                    }
+                );
             }
         }
     }
@@ -274,7 +331,13 @@ fn a_number_has_up_to_five_octets(rt: HostRuntime) {
             Ok(view) => assert_eq!(rt; Some(view.ticks), says),
             Err(refusal) => {
                 assert_eq!(rt; says, None);
-                assert_eq!(rt; refusal, Refusal { at: TICKS, why: Why::Integer });
+                assert_eq!(rt;
+                    refusal,
+                    Refusal {
+                        at: TICKS,
+                        why: Why::Integer
+                    }
+                );
             }
         }
     }
@@ -303,16 +366,39 @@ fn writes_the_vector_and_the_numbers_of_each_length(rt: HostRuntime) {
     assert_eq!(rt; octets.as_slice(), VECTOR.as_slice());
     // A specific number and a time-stamp, and how they are spelled.
     let cases = [
-        (0x00_6F_01, 0x7F, [0x02, 0x02, 0x6F, 0x01, 0x43, 0x01, 0x7F].as_slice()),
-        (0xC0_6F_01, 0x80, [0x02, 0x04, 0x00, 0xC0, 0x6F, 0x01, 0x43, 0x02, 0x00, 0x80].as_slice()),
-        (0, 0xFFFF_FFFF, [0x02, 0x01, 0x00, 0x43, 0x05, 0x00, 0xFF, 0xFF, 0xFF, 0xFF].as_slice()),
-        (0x00_80_00, 0x7FFF_FFFF, [0x02, 0x03, 0x00, 0x80, 0x00, 0x43, 0x04, 0x7F, 0xFF, 0xFF, 0xFF].as_slice()),
+        (
+            0x00_6F_01,
+            0x7F,
+            [0x02, 0x02, 0x6F, 0x01, 0x43, 0x01, 0x7F].as_slice(),
+        ),
+        (
+            0xC0_6F_01,
+            0x80,
+            [0x02, 0x04, 0x00, 0xC0, 0x6F, 0x01, 0x43, 0x02, 0x00, 0x80].as_slice(),
+        ),
+        (
+            0,
+            0xFFFF_FFFF,
+            [0x02, 0x01, 0x00, 0x43, 0x05, 0x00, 0xFF, 0xFF, 0xFF, 0xFF].as_slice(),
+        ),
+        (
+            0x00_80_00,
+            0x7FFF_FFFF,
+            [
+                0x02, 0x03, 0x00, 0x80, 0x00, 0x43, 0x04, 0x7F, 0xFF, 0xFF, 0xFF,
+            ]
+            .as_slice(),
+        ),
     ];
     for (specific, ticks, spelled) in cases {
         encode(&trap(specific, ticks), &mut octets);
         assert!(rt; octets.as_slice()[35..].starts_with(spelled));
         let view = decode(octets.as_slice());
-        let written = TrapView { specific, ticks, ..seen() };
+        let written = TrapView {
+            specific,
+            ticks,
+            ..seen()
+        };
         assert_eq!(rt; view, Ok(written));
     }
 }

@@ -1,4 +1,4 @@
-use Rattle.std.proofs.Common.{◌<◌, length, arith}
+use Rattle.std.proofs.Common.{arith}
 use Rattle.snmp_trap.proofs.Numbers.{small_power, one_more, one_more_fits}
 use Rattle.snmp_trap.proofs.number.number_of.Goals as goal
 

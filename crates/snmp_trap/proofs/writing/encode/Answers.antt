@@ -1,4 +1,4 @@
-use Rattle.std.proofs.Common.{ap, sym, subst, ◌∙◌, length, arith}
+use Rattle.std.proofs.Common.{ap, sym, subst, length, arith}
 use Rattle.snmp_trap.specs.Grammar.{IsTrap}
 use Rattle.snmp_trap.specs.Shortest.{Shortest}
 use Rattle.snmp_trap.specs.Spelling.{fields, spelling}
