@@ -11,3 +11,4 @@ pub mod Answered
 pub mod Shorter
 pub mod Spelled
 pub mod Rows
+pub mod Unique

@@ -3,6 +3,7 @@ use Rattle.std.specs.Prelude.{◌≡◌, ℕ, List, [], ◌++◌}
 use Rattle.snmp_trap.specs.declared.refusal.Why.{Why}
 use Rattle.snmp_trap.specs.Grammar.{Seen, IsTrap}
 use Rattle.snmp_trap.specs.Refusals.{RefusedTrap}
+use Rattle.snmp_trap.specs.Shortest.{AreOctets, Shortest}
 
 -- a trap in one way alone, and not refused
 pub record IsOneTrap (octets : List ℕ) : Type 0 where
@@ -23,3 +24,7 @@ pub record IsOneRefusal (octets : List ℕ) : Type 0 where
 -- the octets of a trap are followed by nothing where the whole is a trap too
 abbrev pub IsNoPrefix : List ℕ → List ℕ → Type 0
 IsNoPrefix octets rest = (v w : Seen) → IsTrap octets v → IsTrap (octets ++ rest) w → rest ≡ []
+
+-- a trap has but one shortest spelling
+abbrev pub IsOneSpelling : Seen → Type 0
+IsOneSpelling v = (a b : List ℕ) → AreOctets a → AreOctets b → Shortest v a → Shortest v b → a ≡ b

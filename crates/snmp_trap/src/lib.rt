@@ -11,7 +11,7 @@ mod refusal;
 mod trap;
 mod writing;
 
-pub use laws::{no_prefix, one_answer};
+pub use laws::{no_prefix, one_answer, one_spelling};
 pub use reading::decode;
 pub use refusal::{Refusal, Why};
 pub use trap::{Trap, TrapView};
