@@ -34,7 +34,7 @@ pub record IsNumberElement (octets : List ℕ) (tag n : ℕ) : Type 0 where
 
 -- ---- the bindings
 
--- the tag of a value: its low five bits aren't all 1
+-- the tag of a value: its low five bits aren't all 1, which would say that it goes on in the next octet (X.690, section 8.1.2.4)
 abbrev pub IsValueTag : ℕ → Type 0
 IsValueTag tag = tag % 32 ≢ 31
 
