@@ -1,6 +1,6 @@
 #!/usr/bin/env bash
 # Messages a second of `decode` on one core, beside a loop in C (gcc -O2) that reads the same grammar.
-# Outside the merge gate. It proves and builds a copy in a temporary folder, and takes the least processor time of five runs.
+# Outside the merge gate, which takes no main.rt outside a crate: the program is main.rattle. It proves and builds a copy in a temporary folder, and takes the least processor time of five runs.
 set -eu
 messages=20000000
 here=$(cd "$(dirname "$0")" && pwd)
@@ -12,7 +12,7 @@ git init -q "$work"
 mkdir -p "$work/crates/bench_trap/src"
 cp "$top/HANDLES" "$work/"
 cp -r "$top/crates/board_core" "$top/crates/snmp_trap" "$work/crates/"
-cp "$here/program/main.rt" "$work/crates/bench_trap/src/main.rt"
+cp "$here/main.rattle" "$work/crates/bench_trap/src/main.rt"
 printf 'board_core: arrayvec\nsnmp_trap: board_core\nbench_trap: anyhow snmp_trap\n' > "$work/crates.txt"
 (cd "$work/crates/bench_trap" && rt run > "$work/log" 2>&1) || { cat "$work/log"; exit 1; }
 gcc -O2 -o "$work/reader" "$here/reader.c"
