@@ -1,0 +1,14 @@
+pub mod Numbers
+pub mod Results
+pub mod Elements
+pub mod Loop
+pub mod Exact
+pub mod Leaves
+pub mod Fronts
+pub mod Bindings
+pub mod Message
+pub mod Answered
+pub mod Shorter
+pub mod Spelled
+pub mod Rows
+pub mod Unique
