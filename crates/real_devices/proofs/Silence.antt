@@ -1,7 +1,7 @@
 -- What a board that tells nothing has to keep: its counts alone.
-use Rattle.std.proofs.Common.{◌≡◌, ◌≤◌, ℕ, List, Result, inl, arith}
+use Rattle.std.proofs.Common.{◌≤◌, ℕ, List, Result, inl, arith}
 use Rattle.std.proofs.lemmas.Bool.{false≢true}
-use Rattle.board_core.specs.Board.{IsFileRun, IsFileCall, Reads, TakesWrite, Syncs, Issues}
+use Rattle.board_core.specs.Board.{IsFileCall, Reads, TakesWrite, Syncs, Issues}
 use Rattle.board_core.specs.declared.step.Step.{Step}
 use Rattle.board_core.specs.declared.step.Told.{Told}
 use Rattle.real_devices.specs.Silent.{silent_view}

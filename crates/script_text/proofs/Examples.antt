@@ -1,7 +1,7 @@
 -- The definitions on worked texts.
-use Rattle.std.proofs.Common.{◌≡◌, ℕ, List, [], ◌∷◌, ◌++◌, Option, Some, None, refl, codes}
+use Rattle.std.proofs.Common.{◌≡◌, ℕ, List, [], ◌∷◌, Some, None, refl, codes}
 use Rattle.hex.specs.Hex.{decode_pairs}
-use Rattle.script_text.specs.declared.form.Form.TheVariants.{Head, Event, End}
+use Rattle.script_text.specs.declared.form.Form.TheVariants.{Head, Event}
 use Rattle.script_text.specs.Lines.{lines_of}
 use Rattle.script_text.specs.Forms.{form_of}
 use Rattle.script_text.specs.Script.{said, said_of, bad_line}

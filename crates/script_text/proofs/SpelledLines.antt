@@ -1,8 +1,8 @@
 -- A text has lines exactly where it spells them.
-use Rattle.std.proofs.Common.{◌≡◌, ◌≢◌, ◌⊎◌, inl, inr, ℕ, true, false, ◌&&◌, nat_eq, if◌then◌else◌, List, [], ◌∷◌, ◌++◌, refl, sym, ◌∙◌, ap, subst, append_assoc}
-use Rattle.std.proofs.lemmas.Bool.{ne_eqb, eq-eqb, false≢true}
+use Rattle.std.proofs.Common.{◌≡◌, ◌≢◌, ◌⊎◌, inl, inr, ℕ, true, false, nat_eq, List, [], ◌∷◌, ◌++◌, refl, sym, ◌∙◌, ap, subst, append_assoc}
+use Rattle.std.proofs.lemmas.Bool.{false≢true}
 use Rattle.std.proofs.lemmas.Bool.Decides.{eqb_tells}
-use Rattle.script_text.specs.Lines.{lines_of, begins_with, onto_first, without_last, HasNoEnd, IsEnded, SpellsLines}
+use Rattle.script_text.specs.Lines.{lines_of, begins_with, onto_first, HasNoEnd, IsEnded, SpellsLines}
 use Rattle.script_text.proofs.LinesLemmas.{lines_front, lines_last, lines_octet, no_end-push}
 use Rattle.script_text.proofs.LastOctet.{without_last-push, without_last-kept}
 

@@ -1,5 +1,5 @@
 -- The settings text, and the settings octets that it gives.
-use Rattle.std.specs.Prelude.{◌≡◌, ◌⊎◌, ℕ, ◌≤◌, bytes_eq, codes, if◌then◌else◌, List, [], ◌∷◌, ◌++◌, length, drop, replicate, Option, Some, None, IfSome, IfNone, Result, Ok, Err}
+use Rattle.std.specs.Prelude.{◌≡◌, ◌⊎◌, ℕ, bytes_eq, codes, if◌then◌else◌, List, [], ◌∷◌, ◌++◌, drop, replicate, Option, Some, None, Result, Ok, Err}
 use Rattle.hex.specs.Hex.{decode_sized}
 use Rattle.hex.specs.declared.error.FromHexError.{FromHexError}
 use Rattle.script_text.specs.Lines.{without_last}

@@ -1,4 +1,3 @@
-use Rattle.std.proofs.Common.{ℕ, List, ◌≡◌}
 use Rattle.script_text.proofs.SpelledLines.{lines_are_spelled, spelled_lines}
 use Rattle.script_text.proofs.laws.lines_spelled.Goals as goal
 

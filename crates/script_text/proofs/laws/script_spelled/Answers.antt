@@ -1,4 +1,3 @@
-use Rattle.std.proofs.Common.{ℕ, List, ◌≡◌}
 use Rattle.script_text.specs.Lines.{lines_of}
 use Rattle.script_text.proofs.SpelledScripts.{says_whole, whole_says, says_bad, bad_says, says_nothing, nothing_says}
 use Rattle.script_text.proofs.laws.script_spelled.Goals as goal

@@ -1,4 +1,3 @@
-use Rattle.std.proofs.Common.{ℕ, List, ◌≡◌, Option, Some}
 use Rattle.script_text.proofs.SettingsLemmas.{gives_spelled, spelled_gives}
 use Rattle.script_text.proofs.laws.settings_spelled.Goals as goal
 

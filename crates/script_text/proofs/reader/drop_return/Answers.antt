@@ -1,4 +1,4 @@
-use Rattle.std.proofs.Common.{◌≡◌, ◌<◌, ℕ, List, [], ◌∷◌, ◌++◌, length, ◌+◌, ◌-◌, suc, take, drop, get_or, add-one, arith, sym, ◌∙◌, ap, subst, refl, rules}
+use Rattle.std.proofs.Common.{◌≡◌, ℕ, List, length, ◌-◌, suc, take, get_or, arith, sym, ◌∙◌, ap, subst, refl}
 use Rattle.script_text.proofs.LinesLemmas.{return_cut, return_kept}
 use Rattle.script_text.specs.Lines.{without_last}
 use Rattle.script_text.proofs.reader.drop_return.Goals as goal

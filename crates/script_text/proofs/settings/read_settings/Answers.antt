@@ -1,4 +1,4 @@
-use Rattle.std.proofs.Common.{◌≡◌, ℕ, List, Option, Some, subst}
+use Rattle.std.proofs.Common.{subst}
 use Rattle.script_text.specs.Whole.{IsWhole}
 use Rattle.script_text.proofs.SettingsLemmas.{long_gives}
 use Rattle.script_text.proofs.settings.read_settings.Goals as goal

@@ -1,4 +1,4 @@
-use Rattle.std.proofs.Common.{◌≡◌, ℕ, List, Some, sym, ◌∙◌, ap}
+use Rattle.std.proofs.Common.{Some, sym, ◌∙◌, ap}
 use Rattle.hex.specs.Hex.{decode_sized}
 use Rattle.script_text.specs.Lines.{without_last}
 use Rattle.script_text.proofs.SettingsLemmas.{line_gives, decoded_ok, decoded_err}

@@ -1,4 +1,4 @@
-use Rattle.std.proofs.Common.{◌≡◌, ◌≤◌, ◌-◌, ℕ, List, ◌++◌, Option, Some, length}
+use Rattle.std.proofs.Common.{◌≡◌, ◌≤◌, ◌-◌, ℕ, List, ◌++◌, Some, length}
 use Rattle.script_text.proofs.whole.read_text.Given as goal
 
 abbrev pub invariant-chunks : goal.invariant-chunks

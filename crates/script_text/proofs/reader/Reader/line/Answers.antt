@@ -1,6 +1,6 @@
-use Rattle.std.proofs.Common.{◌≡◌, ◌≢◌, ◌<◌, ◌≤◌, ℕ, List, [], ◌∷◌, ◌++◌, length, ◌+◌, ◌-◌, suc, Some, None, Option, take, drop, get_or, add-one, arith, sym, ◌∙◌, ap, subst, refl, rules}
+use Rattle.std.proofs.Common.{[], ◌∷◌, length, Some, arith, sym, ◌∙◌, ap, subst}
 use Rattle.script_text.specs.Lines.{lines_of, HasNoEnd}
-use Rattle.script_text.specs.Reading.{HasLeft, GivesOctet}
+use Rattle.script_text.specs.Reading.{GivesOctet}
 use Rattle.script_text.proofs.Read.{IsReading}
 use Rattle.script_text.proofs.LinesLemmas.{reading_start, reading_octet, reading_over, names_ended, names_last, finds, too_long, no_end-push, not_below, no_octets}
 use Rattle.script_text.proofs.reader.Reader.line.Goals as goal

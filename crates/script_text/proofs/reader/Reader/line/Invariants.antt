@@ -1,4 +1,4 @@
-use Rattle.std.proofs.Common.{◌≡◌, ◌≤◌, ◌<◌, ℕ, List, [], ◌++◌, Option, length, ◌+◌, ◌-◌, ◌*◌}
+use Rattle.std.proofs.Common.{◌≤◌, ℕ, List, length, ◌-◌}
 use Rattle.script_text.specs.Lines.{HasNoEnd}
 use Rattle.script_text.specs.Reading.{HasLeft}
 use Rattle.script_text.proofs.Read.{IsReading}

@@ -1,5 +1,4 @@
-use Rattle.std.proofs.Common.{◌≡◌, ◌<◌, ◌≤◌, ℕ, List, [], ◌∷◌, ◌++◌, length, ◌+◌, take, drop, get_or, add-one, arith, sym, ◌∙◌, ap, rules}
-use Rattle.script_text.specs.Reading.{HasLeft, GivesOctet}
+use Rattle.std.proofs.Common.{◌<◌, ◌≤◌, ◌∷◌, length, ◌+◌, take, drop, get_or, add-one, arith, sym, ◌∙◌, ap}
 use Rattle.script_text.proofs.LinesLemmas.{held_none, held_some, gives_octet, gives_none}
 use Rattle.script_text.proofs.reader.Reader.next.Goals as goal
 
