@@ -18,6 +18,8 @@ use std::alloc::{AllocError, Global};
 pub struct Controller {
     filter: Filter,
     log: Log,
+    /// How many records at the front of the log are processed. The next one, where there is one, asks for an action
+    /// and waits for its outcome.
     mark: usize,
     script: Option<Script>,
     note: Note,
@@ -44,14 +46,14 @@ impl Controller {
         })
     }
 
-    /// The script that was opened last.
+    /// The script that was opened last, and None where none was.
     pub fn script(&self) -> Option<Script>
         ensures { (Z : List ℕ) (H : List (Entry Item)) → ShowsController self.now Z H → result ≡ script_of H }
     {
         self.script
     }
 
-    /// What the last item did.
+    /// What the last item did; an outcome leaves it as it is.
     pub fn note(&self) -> Note
         ensures { (Z : List ℕ) (H : List (Entry Item)) → ShowsController self.now Z H → result ≡ note_after H }
     {
