@@ -1,0 +1,110 @@
+-- What a crash leaves while calls follow one another.
+use Rattle.std.proofs.Common.{◌≡◌, ◌↔◌, inl, inr, ⊎_elim, ℕ, List, IsTrue, sym, ◌∙◌, ap, arith}
+use Rattle.pef_journal.specs.Journal.{LeavesAsRead}
+use Rattle.board_core.specs.Board.{BoardView, Left, LeftNow, IsSound, IsFileRun, IsFileCall, Reads, LeavesOnly, SyncsFirst, NeverSynced, steps_of, tolds_of, Only}
+
+-- before the first call
+pub started : (v : BoardView) (P : Left → Type 0) → IsSound v → IsTrue v.tells → ((left : Left) → LeftNow v left → P left) → LeavesOnly v v P
+started v P sound tells here = record { later = omega arith; each = λ left since. here left (sound.only_now tells left since); before = λ t left le since. inl since }
+
+-- one call of the file more
+pub goes_on : (old mid new : BoardView) (P : Left → Type 0) → LeavesOnly old mid P → IsFileCall mid new → IsTrue new.tells → ((left : Left) → LeftNow new left → P left) → LeavesOnly old new P
+goes_on old mid new P so_far call tells here = record {
+  later = omega (arith, so_far.later, call.run.later tells);
+  each = λ left since. ⊎_elim (so_far.each left) (here left) (call.nothing_else tells old.moment left so_far.later since);
+  before = λ t left le since. ⊎_elim (so_far.before t left le) (λ now. inr (here left now)) (call.nothing_else tells t left (omega (arith, le, so_far.later)) since);
+}
+
+-- two runs of calls of the file
+pub run_compose : (u v w : BoardView) → IsFileRun u v → IsFileRun v w → IsFileRun u w
+run_compose u v w first second = record {
+  tells = λ tells. first.tells (second.tells tells);
+  goes_on = λ tells. second.goes_on (first.goes_on tells);
+  sent = λ tells. second.sent tells ∙ first.sent (second.tells tells);
+  disk_faults = omega (arith, first.disk_faults, second.disk_faults);
+  issue_faults = omega (arith, first.issue_faults, second.issue_faults);
+  later = λ tells. omega (arith, second.later tells, first.later (second.tells tells));
+  keeps = λ tells t left le since. second.keeps tells t left (omega (arith, le, first.later (second.tells tells))) (first.keeps (second.tells tells) t left le since);
+}
+
+-- two runs, one behind the other
+pub leaves_compose : (start now new : BoardView) (P Q : Left → Type 0) → LeavesOnly start now P → LeavesOnly now new Q → ((left : Left) → Q left → P left) → LeavesOnly start new P
+leaves_compose start now new P Q first second along = record {
+  later = omega (arith, first.later, second.later);
+  each = λ left since. ⊎_elim (first.each left) (along left) (second.before start.moment left first.later since);
+  before = λ t left le since. ⊎_elim (first.before t left le) (λ q. inr (along left q)) (second.before t left (omega (arith, le, first.later)) since);
+}
+
+-- the same said of a weaker fact
+pub leaves_map : (old new : BoardView) (P Q : Left → Type 0) → ((left : Left) → P left → Q left) → LeavesOnly old new P → LeavesOnly old new Q
+leaves_map old new P Q along run = record {
+  later = run.later;
+  each = λ left since. along left (run.each left since);
+  before = λ t left le since. ⊎_elim inl (λ p. inr (along left p)) (run.before t left le since);
+}
+
+pub syncs_map : (old new : BoardView) (P Q : Left → Type 0) → ((left : Left) → P left → Q left) → SyncsFirst old new P → SyncsFirst old new Q
+syncs_map old new P Q along s = record { synced = s.synced; after_start = s.after_start; by_now = s.by_now; until = s.until; since = λ left now. along left (s.since left now) }
+
+-- a call that only reads: a crash in it leaves what it could just before
+pub syncs_reads : (start now new : BoardView) (P : Left → Type 0) → IsSound now → IsSound new → Reads now new → IsTrue new.tells → SyncsFirst start now P → SyncsFirst start new P
+syncs_reads start now new P sound_now sound_new reads tells s = record {
+  synced = s.synced;
+  after_start = s.after_start;
+  by_now = omega (arith, s.by_now, reads.call.run.later tells);
+  until = λ left since. ⊎_elim
+      (λ old. ⊎_elim inl (λ later. inr (reads.call.run.keeps tells s.synced left s.by_now later)) (s.until left old))
+      (λ at_new. inr (sound_new.counts_now tells s.synced left (omega (arith, s.by_now, reads.call.run.later tells)) at_new))
+      (reads.call.nothing_else tells start.moment left (omega (arith, s.after_start, s.by_now)) since);
+  since = λ left since. ⊎_elim (s.since left)
+      (λ at_new. s.since left (sound_now.counts_now (reads.call.run.tells tells) s.synced left s.by_now
+      (record { image = (reads.images tells left.image).0 at_new.image; issued = at_new.issued ∙ ap steps_of (reads.call.run.sent tells); told = at_new.told ∙ ap tolds_of (reads.call.run.sent tells) })))
+      (reads.call.nothing_else tells s.synced left s.by_now since);
+}
+
+-- two calls that only read, one behind the other
+pub reads_compose : (u v w : BoardView) → Reads u v → Reads v w → Reads u w
+reads_compose u v w first second = record {
+  call = record {
+    run = run_compose u v w first.call.run second.call.run;
+    nothing_else = λ tells t left le since. ⊎_elim
+        (λ at_v. ⊎_elim inl (λ now. inr (read_later left tells now)) (first.call.nothing_else (second.call.run.tells tells) t left le at_v))
+        inr
+        (second.call.nothing_else tells t left (omega (arith, le, first.call.run.later (second.call.run.tells tells))) since);
+  };
+  octets = λ tells. second.octets tells ∙ first.octets (second.call.run.tells tells);
+  images = λ tells c. (
+    λ now. (first.images (second.call.run.tells tells) c).0 ((second.images tells c).0 now),
+    λ was. (second.images tells c).1 ((first.images (second.call.run.tells tells) c).1 was),
+  );
+}
+  where
+    read_later : (left : Left) → IsTrue w.tells → LeftNow v left → LeftNow w left
+    read_later left tells now = record {
+      image = (second.images tells left.image).1 now.image;
+      issued = now.issued ∙ ap steps_of (sym (second.call.run.sent tells));
+      told = now.told ∙ ap tolds_of (sym (second.call.run.sent tells));
+    }
+
+-- the sync that a work begins with has failed
+pub never_synced : (v w : BoardView) → IsSound v → IsFileCall v w → IsTrue w.tells → ((c : List ℕ) → w.images c ↔ v.images c) → NeverSynced v w
+never_synced v w sound call tells same = record {
+  until = λ left since. ⊎_elim (sound.only_now (call.run.tells tells) left)
+      (λ now. record { image = (same left.image).0 now.image; issued = now.issued ∙ ap steps_of (call.run.sent tells); told = now.told ∙ ap tolds_of (call.run.sent tells) })
+      (call.nothing_else tells v.moment left (omega arith) since);
+}
+
+-- or it is done
+pub first_sync : (v w : BoardView) → IsSound v → IsSound w → IsFileCall v w → IsTrue w.tells → w.octets ≡ v.octets → Only w.octets w.images → SyncsFirst v w (LeavesAsRead v)
+first_sync v w sound_v sound_w call tells octets lasting = record {
+  synced = w.moment;
+  after_start = call.run.later tells;
+  by_now = omega arith;
+  until = λ left since. ⊎_elim
+      (λ was. inl (sound_v.only_now (call.run.tells tells) left was))
+      (λ now. inr (sound_w.counts_now tells w.moment left (omega arith) now))
+      (call.nothing_else tells v.moment left (omega arith) since);
+  since = λ left since.
+      let now = sound_w.only_now tells left since in
+      (record { issued = now.issued ∙ ap steps_of (call.run.sent tells); told = now.told ∙ ap tolds_of (call.run.sent tells) }, lasting left.image now.image ∙ octets);
+}

@@ -1,0 +1,21 @@
+-- What is found at a gate.
+use Rattle.std.specs.Prelude.{◌≡◌, ℕ, ◌+◌, ◌/◌, ◌%◌, ◌<◌, ◌≤◌, List, ◌∷◌, ◌++◌, length, take, drop, ⊤}
+use Rattle.pef_journal.specs.Image.{IsShutAt, IsCorruptAt}
+use Rattle.pef_journal.specs.declared.gate.Gate.{Gate}
+use Rattle.pef_journal.specs.declared.gate.Gate.TheVariants.{Closed, Corrupt, Open}
+
+-- an entry of so many octets at this place, and the next gate, lie before this end
+abbrev pub LiesWithin : ℕ → ℕ → ℕ → Type 0
+LiesWithin gate n end = (1 ≤ n) × (n ≤ 520) × (gate + 3 + n < end)
+
+-- what each answer says of the gate at this place
+abbrev pub GateIs : List ℕ → ℕ → Gate → Type 0
+GateIs file gate Closed = IsShutAt file gate
+GateIs file gate Corrupt = IsCorruptAt file gate
+GateIs file gate (Open n) = LiesWithin gate n (length file) × (file ≡ take gate file ++ 165 ∷ (n % 256) ∷ (n / 256) ∷ drop (gate + 3) file)
+
+-- and of the length of the file, told or not
+abbrev pub GateWithin : ℕ → ℕ → Gate → Type 0
+GateWithin gate end Closed = gate < end
+GateWithin gate end Corrupt = ⊤
+GateWithin gate end (Open n) = LiesWithin gate n end

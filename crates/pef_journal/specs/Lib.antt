@@ -1,0 +1,4 @@
+pub mod Image
+pub mod Gate
+pub mod Journal
+pub mod Format

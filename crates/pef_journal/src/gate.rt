@@ -1,0 +1,67 @@
+//! Reading a gate, and the entry behind it.
+ghost use Rattle.std.specs.Prelude.{◌≡◌, ◌+◌, ◌<◌, ◌≤◌, length, take, drop, IsTrue, IfOk, OnOk, OnErr};
+ghost use Rattle.board_core.specs.Causes.{HasCause};
+ghost use Rattle.board_core.specs.Board.{HasRoomFor, Reads};
+ghost use Rattle.pef_journal.specs.Gate.{GateIs, GateWithin};
+
+use crate::layout::{LONGEST, OPEN};
+use board_core::{Board, DiskFailed, Payload};
+
+/// What stands at a gate.
+#[derive(Clone, Copy, Debug, PartialEq, Eq)]
+pub enum Gate {
+    /// The last entry stands before it.
+    Closed,
+    /// The gate, or the entry behind it, doesn't lie within the file.
+    Corrupt,
+    /// Behind it stands an entry of so many octets.
+    Open(usize),
+}
+
+/// Reads the gate at a place of a file of this length, with the entry's length behind it.
+pub fn read_gate<B: Board>(board: &mut B, place: u64, file_length: u64) -> Result<Gate, DiskFailed>
+    requires { IsTrue (B.view board.old).tells → file_length ≡ length (B.view board.old).octets }
+    ensures file { Reads (B.view board.old) (B.view board.new) }
+    ensures found { IsTrue (B.view board.new).tells → IfOk result (λ gate. GateIs (B.view board.old).octets place gate) }
+    ensures within { IfOk result (λ gate. GateWithin place file_length gate) }
+    ensures cause { HasCause (B.view board.old).disk_faults (B.view board.new).disk_faults result }
+{
+    if place >= file_length {
+        return Ok(Gate::Corrupt);
+    }
+    let left = file_length - place;
+    // at the end of the file a length may have no room; what isn't read stays 0
+    let mut head = [0; 3];
+    let count = left.min(3) as usize;
+    board.read_at(place, &mut head[..count])?;
+    if head[0] != OPEN {
+        return Ok(Gate::Closed);
+    }
+    let length = usize::from(u16::from_le_bytes([head[1], head[2]]));
+    if length < 1 || length > LONGEST || left <= 3 + length as u64 {
+        return Ok(Gate::Corrupt);
+    }
+    Ok(Gate::Open(length))
+}
+
+/// Puts so many octets from a place on into `out`.
+pub fn read_octets<B: Board>(
+    board: &mut B,
+    place: u64,
+    count: usize,
+    out: &mut Payload,
+) -> Result<(), DiskFailed>
+    requires count { count ≤ 520 }
+    requires place { HasRoomFor (B.view board.old) (place + count) }
+    ensures file { Reads (B.view board.old) (B.view board.new) }
+    ensures read { IsTrue (B.view board.new).tells → OnOk result (out.new ≡ take count (drop place (B.view board.old).octets)) }
+    ensures count { OnOk result (length out.new ≡ count) }
+    ensures stays { OnErr result (out.new ≡ out.old) }
+    ensures cause { HasCause (B.view board.old).disk_faults (B.view board.new).disk_faults result }
+{
+    let mut octets = [0; LONGEST];
+    board.read_at(place, &mut octets[..count])?;
+    out.clear();
+    let _ = out.extend(&octets[..count]);
+    Ok(())
+}

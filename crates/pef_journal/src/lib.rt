@@ -1,0 +1,16 @@
+//! The state file: a header, and behind it a journal of entries, each of which is whole or absent after a crash.
+#![tactic(auto)]
+
+mod appending;
+mod fault;
+mod formatting;
+mod gate;
+mod journal;
+mod layout;
+mod opening;
+mod reading;
+mod syncing;
+
+pub use fault::JournalFault;
+pub use formatting::{format, kind_of};
+pub use journal::Journal;
