@@ -1,0 +1,168 @@
+// A reader of lines over a source.
+ghost use Rattle.std.specs.Prelude.{◌≡◌, ◌≤◌, ◌<◌, ℕ, List, [], Option, IfOk, OnOk, length};
+ghost use Rattle.board_core.specs.Causes.{HasCause};
+ghost use Rattle.script_text.specs.Lines.{line_limit, without_last};
+ghost use Rattle.script_text.specs.Reading.{HasLeft, GivesOctet, Finds};
+ghost use Rattle.script_text.specs.Script.{GivesForm};
+
+use crate::form::Form;
+use crate::parse::read_form;
+use board_core::{Bytes, Source, SourceFailed};
+use std::marker::Model;
+
+/// The longest line in octets, without its end.
+const LINE_LIMIT: usize = 1200;
+
+/// Room for the longest line and for the 0Dh of its end.
+pub type LineBuffer = Bytes<1201>;
+
+/// What comes next in a text.
+#[derive(Clone, Copy, Debug, PartialEq, Eq)]
+pub enum Found {
+    /// A line of at most 1,200 octets.
+    Line,
+    /// A longer line. What the reader holds is then of no more use.
+    TooLong,
+    /// The end of the text.
+    End,
+}
+
+/// The octets that were read and not yet handed out: contracts see them as a list.
+#[derive(Drop)]
+pub struct Reader {
+    chunk: [u8; 256],
+    at: usize,
+    end: usize,
+}
+
+impl Model for Reader {
+    ghost use Rattle.std.specs.Prelude.{◌≤◌, List, ℕ, take, drop};
+
+    ghost Value = { List ℕ };
+
+    ghost view = { λ r. drop r.at (take r.end r.chunk) };
+
+    ghost invariant = { λ r. (r.at ≤ r.end) × (r.end ≤ 256) };
+}
+
+impl Reader {
+    /// A reader that holds nothing.
+    pub fn new() -> Self
+        ensures { result ≡ [] }
+    {
+        Reader {
+            chunk: [0; 256],
+            at: 0,
+            end: 0,
+        }
+    }
+
+    // Reads a chunk where nothing is held. Then something is, unless the text is over.
+    fn fill<S: Source>(&mut self, source: &mut S) -> Result<(), SourceFailed>
+        ensures filled { (text : List ℕ) → HasLeft self.old (S.left source.old) text → HasLeft self.new (S.left source.new) text }
+        ensures over { (text : List ℕ) → HasLeft self.old (S.left source.old) text → OnOk result (self.new ≡ [] → text ≡ []) }
+        ensures cause { HasCause (S.faults source.old) (S.faults source.new) result }
+    {
+        if self.at < self.end {
+            return Ok(());
+        }
+        self.at = 0;
+        self.end = 0;
+        let count = source.read(&mut self.chunk)?;
+        // A source that tells nothing may answer any count: an impossible one counts as the end.
+        if count <= 256 {
+            self.end = count;
+        }
+        Ok(())
+    }
+
+    // The next octet, or None at the end of the text.
+    fn next<S: Source>(&mut self, source: &mut S) -> Result<Option<u8>, SourceFailed>
+        ensures octet { (text : List ℕ) → HasLeft self.old (S.left source.old) text → IfOk result (GivesOctet text self.new (S.left source.new)) }
+        ensures cause { HasCause (S.faults source.old) (S.faults source.new) result }
+    {
+        self.fill(source)?;
+        if self.at == self.end {
+            return Ok(None);
+        }
+        let octet = self.chunk[self.at];
+        self.at += 1;
+        Ok(Some(octet))
+    }
+
+    /// Reads the next line, without its end, into `line`. Takes no memory.
+    ///
+    /// At `TooLong` and at an error what `line` holds is left open, and so is what is left of the text.
+    pub fn line<S: Source>(
+        &mut self,
+        source: &mut S,
+        line: &mut LineBuffer,
+    ) -> Result<Found, SourceFailed>
+        ensures found { (text : List ℕ) → HasLeft self.old (S.left source.old) text → IfOk result (Finds text self.new (S.left source.new) line.new) }
+        ensures cause { HasCause (S.faults source.old) (S.faults source.new) result }
+    {
+        line.clear();
+        'octets: loop {
+            match self.next(source)? {
+                None => {
+                    if line.as_slice().len() == 0 {
+                        return Ok(Found::End);
+                    }
+                    return Ok(fits(line));
+                }
+                Some(b'\n') => {
+                    drop_return(line);
+                    return Ok(fits(line));
+                }
+                Some(octet) => {
+                    if !line.push(octet) {
+                        return Ok(Found::TooLong);
+                    }
+                }
+            }
+        }
+    }
+
+    /// Reads the next line and answers its form: None where it has none, and where no line comes. Takes no memory.
+    ///
+    /// At None and at an error what is left of the text is left open.
+    pub fn form<S: Source>(&mut self, source: &mut S) -> Result<Option<Form>, SourceFailed>
+        ensures form { (text : List ℕ) → HasLeft self.old (S.left source.old) text → IfOk result (GivesForm text self.new (S.left source.new)) }
+        ensures cause { HasCause (S.faults source.old) (S.faults source.new) result }
+    {
+        let mut line = LineBuffer::new();
+        match self.line(source, &mut line)? {
+            Found::Line => Ok(read_form(line.as_slice())),
+            Found::TooLong => Ok(None),
+            Found::End => Ok(None),
+        }
+    }
+}
+
+// Whether a line that was read to its end is a line or too long for one.
+fn fits(line: &LineBuffer) -> Found
+    ensures line { result ≡ Found.Line → length line.now ≤ line_limit }
+    ensures long { result ≡ Found.TooLong → line_limit < length line.now }
+    ensures other { result ≡ Found.End → ⊥ }
+{
+    if line.as_slice().len() <= LINE_LIMIT {
+        Found::Line
+    } else {
+        Found::TooLong
+    }
+}
+
+// Lets a 0Dh at the end go.
+fn drop_return(line: &mut LineBuffer)
+    ensures { line.new ≡ without_last 13 line.old }
+{
+    let octets = line.as_slice();
+    let count = octets.len();
+    if count == 0 {
+        return;
+    }
+    if octets[count - 1] != b'\r' {
+        return;
+    }
+    line.truncate(count - 1);
+}

@@ -1,0 +1,48 @@
+// A whole text of bounded length.
+ghost use Rattle.std.specs.Prelude.{◌≡◌, ◌≤◌, ◌+◌, ◌-◌, ◌*◌, ◌<◌, ℕ, List, Option, Some, Err, IfOk, OnErr, length};
+ghost use Rattle.board_core.specs.Causes.{Rose};
+ghost use Rattle.script_text.specs.Whole.{IsWhole};
+
+use board_core::Source;
+use std::alloc::Global;
+
+/// The longest text that is read whole, in octets.
+const TEXT_LIMIT: usize = 65_536;
+
+/// Why a text could not be read.
+#[derive(Clone, Copy, Debug, PartialEq, Eq)]
+pub enum TextFault {
+    /// The source failed.
+    Source,
+    /// There was no memory to hold the text.
+    Memory,
+}
+
+/// Reads what is left of the source, to its end: None where it has more than 65,536 octets.
+///
+/// At None and at an error what is left of the source is left open.
+pub fn read_text<S: Source>(alloc: Global, source: &mut S) -> Result<Option<Vec<u8>>, TextFault>
+    ensures whole { (text : List ℕ) → S.left source.old ≡ Some text → IfOk result (IsWhole text) }
+    ensures later { S.faults source.old ≤ S.faults source.new }
+    ensures failed { result ≡ Err TextFault.Source → Rose (S.faults source.old) (S.faults source.new) }
+{
+    let mut text = Vec::new(alloc);
+    let mut chunk = [0u8; 256];
+    'chunks: loop {
+        let count = match source.read(&mut chunk) {
+            Ok(count) => count,
+            Err(_) => return Err(TextFault::Source),
+        };
+        // A source that tells nothing may answer any count: an impossible one counts as the end.
+        if count == 0 || count > 256 {
+            return Ok(Some(text));
+        }
+        if count > TEXT_LIMIT - text.len() {
+            return Ok(None);
+        }
+        match text.extend_from_slice(&chunk[..count]) {
+            Ok(()) => {}
+            Err(_) => return Err(TextFault::Memory),
+        }
+    }
+}
