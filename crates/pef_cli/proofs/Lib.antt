@@ -1,0 +1,4 @@
+pub mod Written
+pub mod Moments
+pub mod Faults
+pub mod Refusals

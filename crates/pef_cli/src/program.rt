@@ -1,0 +1,46 @@
+//! One call of the program on its words.
+ghost use Rattle.std.specs.Prelude.{◌≡◌, ◌⊎◌, map, string_bytes};
+ghost use Rattle.pef_cli.specs.declared.form.Form.TheVariants.{Init, Run};
+ghost use Rattle.pef_cli.specs.Init.{Inits};
+ghost use Rattle.pef_cli.specs.Output.{Says};
+ghost use Rattle.pef_cli.specs.Top.{IsNoForm, IsOfForm};
+
+use crate::form::Form;
+use crate::initializing::init;
+use crate::words::paths;
+use board_core::{Board, Sink, Source};
+use std::alloc::Global;
+
+/// Does what the words behind the program's name ask for, and answers the status. `board` is the state file of the form, `source` its
+/// other file; the report and the last line go to `out`.
+pub fn top<B: Board, S: Source, K: Sink>(
+    alloc: Global,
+    words: &[String],
+    board: &mut B,
+    source: &mut S,
+    out: &mut K,
+) -> u8
+    ensures usage { IsNoForm (map string_bytes words.now) → (result ≡ 2) × (board.new ≡ board.old) × (source.new ≡ source.old)
+        × Says (K.written out.old) (K.written out.new) (K.faults out.old) (K.faults out.new) result }
+    // `run` isn't there yet
+    ensures is_usage { result ≡ 2 → IsNoForm (map string_bytes words.now) ⊎ IsOfForm Run (map string_bytes words.now) }
+    ensures init { IsOfForm Init (map string_bytes words.now) → Inits (B.view board.old) (B.view board.new) (S.left source.old) (S.faults source.old) (S.faults source.new)
+        (K.written out.old) (K.written out.new) (K.faults out.old) (K.faults out.new) result }
+{
+    let Some(paths) = paths(words) else {
+        return usage(out);
+    };
+    match paths.form {
+        Form::Init => init(alloc, board, source, out),
+        Form::Run => usage(out),
+    }
+}
+
+// The words are no form.
+fn usage<K: Sink>(out: &mut K) -> u8
+    ensures status { result ≡ 2 }
+    ensures says { Says (K.written out.old) (K.written out.new) (K.faults out.old) (K.faults out.new) result }
+{
+    let _ = out.write(b"usage\n");
+    2
+}

@@ -1,0 +1,69 @@
+//! From the words that the program was called with to its call.
+use crate::form::Form;
+use crate::program::top;
+use crate::words::paths;
+use board_core::{MemBoard, MemSource};
+use real_devices::{FileBoard, FileSource, StdSink};
+use std::alloc::AllocError;
+use std::io::ErrorKind;
+use std::{env, io};
+
+/// Why no work could begin.
+#[derive(Clone, Copy, Debug, PartialEq, Eq)]
+pub enum NoStart {
+    /// A file could not be opened.
+    File,
+    /// There was no memory.
+    Memory,
+}
+
+impl From<io::Error> for NoStart {
+    fn from(error: io::Error) -> NoStart {
+        match error.kind() {
+            ErrorKind::OutOfMemory => NoStart::Memory,
+            _ => NoStart::File,
+        }
+    }
+}
+
+impl From<AllocError> for NoStart {
+    fn from(_: AllocError) -> NoStart {
+        NoStart::Memory
+    }
+}
+
+/// Opens what the words name, and does what they ask for: the status. Words that aren't text are no form.
+pub fn start(rt: &HostRuntime) -> Result<u8, NoStart> {
+    match words_of(rt) {
+        Ok(words) => call(rt, words.as_slice()),
+        Err(error) if error.kind() == ErrorKind::InvalidData => call(rt, &[]),
+        Err(error) => Err(NoStart::from(error)),
+    }
+}
+
+// The words behind the program's name.
+fn words_of(rt: &HostRuntime) -> io::Result<Vec<String>> {
+    let mut words = Vec::new(rt.alloc());
+    for word in env::args(rt)?.skip(1) {
+        words.push(word)?;
+    }
+    Ok(words)
+}
+
+fn call(rt: &HostRuntime, words: &[String]) -> Result<u8, NoStart> {
+    let alloc = rt.alloc();
+    let mut out = StdSink::new(io::writer(rt));
+    let Some(paths) = paths(words) else {
+        let mut board = MemBoard::new(alloc, &[], &[], &[])?;
+        let mut source = MemSource::new(alloc, &[], &[])?;
+        return Ok(top(alloc, words, &mut board, &mut source, &mut out));
+    };
+    // this one first, so that no state file is made where it is missing
+    let mut source = FileSource::open(rt, words[paths.second].as_str())?;
+    let state = words[paths.state].as_str();
+    let mut board = match paths.form {
+        Form::Init => FileBoard::create(rt, alloc, state)?,
+        Form::Run => FileBoard::open(rt, alloc, state)?,
+    };
+    Ok(top(alloc, words, &mut board, &mut source, &mut out))
+}
