@@ -1,9 +1,5 @@
 -- Lines and the forms that they have.
-<<<<<<< HEAD
 use Rattle.std.proofs.Common.{◌≡◌, ℕ, ◌<◌, ◌≤◌, Bool, true, false, ◌&&◌, if◌then◌else◌, nat_le, nat_lt, List, [], ◌∷◌, length, Option, Some, None, sym, ◌∙◌, subst, refl, arith}
-=======
-use Rattle.std.proofs.Common.{◌≡◌, ℕ, ◌≤◌, true, false, nat_le, List, [], length, Option, Some, None, sym, ◌∙◌, subst, refl, arith}
->>>>>>> f43654696b128317dcded5ea96a9a0dcda92321b
 use Rattle.std.proofs.lemmas.Bool.Decides.{nat_tests}
 use Rattle.script_text.specs.Lines.{lines_of, line_limit}
 use Rattle.script_text.specs.Forms.{form_of, count_of, are_digits, value_from}

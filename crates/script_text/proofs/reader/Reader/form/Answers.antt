@@ -1,12 +1,7 @@
 use Rattle.std.proofs.Common.{◌∙◌, ap, subst}
 use Rattle.script_text.specs.Forms.{form_of}
-<<<<<<< HEAD
 use Rattle.script_text.specs.Reading.{HasLeft, Finds}
 use Rattle.script_text.proofs.ScriptLemmas.{names_form, long_form, end_form, has_count}
-=======
-use Rattle.script_text.specs.Reading.{Finds}
-use Rattle.script_text.proofs.ScriptLemmas.{names_form, long_form, end_form}
->>>>>>> f43654696b128317dcded5ea96a9a0dcda92321b
 use Rattle.script_text.proofs.reader.Reader.form.Goals as goal
 
 pub returns-in-Line-clause-form : goal.returns-in-Line-clause-form
