@@ -5,3 +5,4 @@ pub mod ScriptsLemmas
 pub mod TakesLemmas
 pub mod PlayLemmas
 pub mod TopLemmas
+pub mod EndLemmas

@@ -7,7 +7,7 @@ use Rattle.board_core.specs.Board.{BoardView, Left, LeftNow, LeavesOnly, NeverSy
 use Rattle.pef_engine.specs.declared.entry.Entry.{Entry}
 use Rattle.pef_engine.specs.declared.engine.Engine.{Engine}
 use Rattle.pef_engine.specs.declared.script.Script.{Script}
-use Rattle.pef_engine.specs.Rules.{Rules, Lawful, LawfulFrom, Stands}
+use Rattle.pef_engine.specs.Rules.{Rules, Lawful, LawfulFrom, Stands, StandsForNone}
 use Rattle.pef_engine.specs.MachineView.{MachineView}
 use Rattle.pef_engine.specs.Lines.{line, LeavesPrefix, entry_items, entry_tolds, IsPrefixOf}
 use Rattle.script_text.specs.Lines.{lines_of}
@@ -20,7 +20,7 @@ use Rattle.script_run.specs.declared.stop.Stop.{Stop}
 use Rattle.script_run.specs.declared.stop.Stop.TheVariants.{Unformatted, Line, Unfinished, Input, Disk, Output, Full, Memory}
 use Rattle.pef_engine.specs.Scripts.{ScriptRules, IsUnfinished}
 use Rattle.script_run.specs.Items.{IsOther, is_same, rest_of, items_of_text}
-use Rattle.script_run.specs.Report.{report_from, line_end, ok_line, bad_line_line, unfinished_line}
+use Rattle.script_run.specs.Report.{report_from, says, line_end, ok_line, bad_line_line, unfinished_line}
 use Rattle.script_run.specs.Run.{IsTooMuch, Runs, RunsGiven, Answers}
 
 -- how a script of this id and count goes on behind the one that was opened last
@@ -213,3 +213,52 @@ IsOpeningStop Disk = ⊤
 IsOpeningStop Output = ⊥
 IsOpeningStop Full = ⊤
 IsOpeningStop Memory = ⊤
+
+-- part of a last line was written, and the whole of it unless the sink failed
+abbrev pub IsPartOf : List ℕ → List ℕ → ℕ → ℕ → Type 0
+IsPartOf part last writes_before writes_after = IsPrefixOf part last × ((part ≡ last) ⊎ Rose writes_before writes_after)
+
+-- status 4 or 5: all that the text gives was taken and reported, and the last line came, or part of it where the sink failed
+pub record RunStops {I : Type 0} (rules : Rules I) (says : List ℕ → List (Entry I) → Entry I → List ℕ) (Z : List ℕ) (H : List (Entry I)) (items : List I) (old new : BoardView) (before after : Option (List ℕ)) (writes_before writes_after : ℕ) (last : List ℕ) : Type 0 where
+  pub part : List ℕ
+  pub is_part : IsPartOf part last writes_before writes_after
+  pub takes : RunTakes rules says Z H items old new before after part
+
+-- A run over a file that stands for the lawful history H, with this text, and its status.
+pub record RunAnswers {I M : Type 0} (rules : Rules I) (view : M → MachineView I) (scripts : ScriptRules I) (Z : List ℕ) (H : List (Entry I)) (text : List ℕ) (old new : BoardView) (before after : Option (List ℕ)) (writes_before writes_after status : ℕ) : Type 0 where
+  -- at every moment the file stands for a prefix of the run without a crash, with the steps that it prescribes
+  pub headline : RunKeeps rules Z H (items_of_text scripts text H) old new
+  -- at status 0 it is whole, and so is what was written
+  pub whole : status ≡ 0 → RunIsWhole rules (says rules scripts) Z H (items_of_text scripts text H) old new before after
+  -- 4 exactly where a line is bad, and 5 exactly where another script is unfinished, unless something failed before
+  pub bad : status ≡ 4 → (number : ℕ) × (bad_line (said_of text) ≡ Some number) × RunStops rules (says rules scripts) Z H (items_of_text scripts text H) old new before after writes_before writes_after (bad_line_line number)
+  pub is_bad : (IsOther (scripts.script_of H) (said_of text) → ⊥) → IsSome (bad_line (said_of text)) → IsOneOf status (4 ∷ 6 ∷ 7 ∷ 8 ∷ 9 ∷ 10 ∷ [])
+  pub other : status ≡ 5 → IsOther (scripts.script_of H) (said_of text) × ((id : ℕ) × (count : ℕ) × IfSome (scripts.script_of H) (λ s. (s.id ≡ id) × (s.count ≡ count))
+      × RunStops rules (says rules scripts) Z H (items_of_text scripts text H) old new before after writes_before writes_after (unfinished_line id count))
+  pub is_other : IsOther (scripts.script_of H) (said_of text) → IsOneOf status (5 ∷ 6 ∷ 7 ∷ 9 ∷ 10 ∷ [])
+  pub formatted : status ≢ 3
+  -- 9 where the next entry of the run without a crash has no room
+  pub full : status ≡ 9 → IsFullAt rules view Z H (items_of_text scripts text H) old new ⊎ ((machine : M) × (item : I) × (view machine).over item)
+
+-- A call of `run` on a board, a source with so many faults, and a sink, and its status.
+pub record RunCall {I M : Type 0} (rules : Rules I) (view : M → MachineView I) (scripts : ScriptRules I) (old new : BoardView) (source : Option (List ℕ)) (reads_before reads_after : ℕ) (before after : Option (List ℕ)) (writes_before writes_after status : ℕ) : Type 0 where
+  pub answers : IsTrue new.tells → (Z : List ℕ) (H : List (Entry I)) (text : List ℕ) → Lawful rules Z H → Stands rules Z H old.octets → source ≡ Some text → RunAnswers rules view scripts Z H text old new before after writes_before writes_after status
+  pub statuses : IsOneOf status (0 ∷ 3 ∷ 4 ∷ 5 ∷ 6 ∷ 7 ∷ 8 ∷ 9 ∷ 10 ∷ [])
+  -- 3 exactly where the file stands for no lawful history, unless opening it fails; then nothing is written to it and nothing issued
+  pub unformatted : status ≡ 3 → IsTrue new.tells → StandsForNone rules old.octets
+  pub is_unformatted : IsTrue new.tells → StandsForNone rules old.octets → IsOneOf status (3 ∷ 7 ∷ 9 ∷ 10 ∷ []) × (new.octets ≡ old.octets) × (new.sent ≡ old.sent)
+  -- 6, 7 and 8 only where a count rose
+  pub input : status ≡ 6 → Rose reads_before reads_after
+  pub disk : status ≡ 7 → Rose old.disk_faults new.disk_faults
+  pub output : status ≡ 8 → Rose writes_before writes_after
+  -- 10 only before the first item, but for a machine that takes memory for its items
+  pub memory : status ≡ 10 → IsTrue rules.takes_memory ⊎ (IsTrue new.tells → (new.octets ≡ old.octets) × (new.sent ≡ old.sent))
+
+-- the last line of a call that ended so, and its status
+abbrev pub Finishes : Option (List ℕ) → Option (List ℕ) → ℕ → ℕ → Result ℕ Stop → ℕ → Type 0
+Finishes before after faults_before faults_after (Ok n) status =
+    ((status ≡ 0) × (faults_before ≤ faults_after) × ((old : List ℕ) → before ≡ Some old → after ≡ Some (old ++ ok_line n)))
+    ⊎ ((status ≡ 8) × (faults_before ≤ faults_after) × Rose faults_before faults_after)
+Finishes before after faults_before faults_after (Err stop) status =
+    (status ≡ status_of stop) × (faults_before ≤ faults_after)
+    × ((old : List ℕ) → before ≡ Some old → (part : List ℕ) × (after ≡ Some (old ++ part)) × IsPartOf part (last_line stop) faults_before faults_after)

@@ -5,10 +5,10 @@ mod course;
 mod head;
 mod playing;
 mod report;
-mod run;
+mod running;
 mod settling;
 mod stop;
 mod taking;
 
-pub use run::{perform, say_ok, say_stop, status};
+pub use running::run;
 pub use stop::Stop;

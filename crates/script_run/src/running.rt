@@ -1,22 +1,21 @@
 //! The form `run`: opening the state file, the script, and the last line.
-ghost use Rattle.std.specs.Prelude.{◌≡◌, ◌⊎◌, ◌↔◌, ◌≤◌, ℕ, List, [], ◌∷◌, ◌++◌, length, Option, Some, None, IsTrue, IfOk, OnOk, IsErr, IsErrOf};
+ghost use Rattle.std.specs.Prelude.{◌≡◌, ◌⊎◌, ◌↔◌, ◌≤◌, ℕ, List, [], ◌∷◌, ◌++◌, length, Option, Some, None, IsTrue, IfOk, OnOk, IsErr, IsErrOf, Result};
 ghost use Rattle.board_core.specs.Causes.{Rose};
-ghost use Rattle.board_core.specs.Source.{Appends};
 ghost use Rattle.pef_engine.specs.declared.entry.Entry.{Entry};
 ghost use Rattle.pef_engine.specs.Rules.{Lawful, Stands, StandsForNone};
-ghost use Rattle.script_run.specs.Report.{says, ok_line};
-ghost use Rattle.script_run.specs.Top.{Performs, AnswersNone, IsOpeningStop, last_line, status_of};
+ghost use Rattle.script_run.specs.Report.{says};
+ghost use Rattle.script_run.specs.Top.{Performs, AnswersNone, IsOpeningStop, RunCall, Finishes, last_line, status_of};
 
 use crate::playing::play;
-use crate::report::{add, number, put};
+use crate::report::{add, number};
 use crate::stop::Stop;
 use board_core::{Board, Sink, Source};
 use hex::encode_to_slice;
 use pef_engine::{Engine, EngineFault, ReportLine, Scripted};
 use std::alloc::Global;
 
-/// Opens the machine's file and runs the script that the source gives. Answers how many items were taken.
-pub fn perform<M: Scripted, B: Board, S: Source, K: Sink>(
+// Opens the machine's file and runs the script that the source gives. Answers how many items were taken.
+pub(crate) fn perform<M: Scripted, B: Board, S: Source, K: Sink>(
     alloc: Global,
     board: &mut B,
     source: &mut S,
@@ -58,27 +57,49 @@ fn stop_at_opening(fault: EngineFault) -> Stop
     }
 }
 
-/// Writes the last line of a run that took so many items.
-pub fn say_ok<K: Sink>(out: &mut K, items: u32) -> Result<(), Stop>
-    ensures said { Appends (ok_line items) (K.written out.old) (K.written out.new) result }
-    ensures output { IsErr result → IsErrOf result Stop.Output × Rose (K.faults out.old) (K.faults out.new) }
-    ensures faults { K.faults out.old ≤ K.faults out.new }
+/// Runs the script that the source gives on the machine of the board's file, and answers the status.
+pub fn run<M: Scripted, B: Board, S: Source, K: Sink>(
+    alloc: Global,
+    board: &mut B,
+    source: &mut S,
+    out: &mut K,
+) -> u8
+    ensures { RunCall M.rules M.view M.scripts (B.view board.old) (B.view board.new) (S.left source.old) (S.faults source.old) (S.faults source.new)
+        (K.written out.old) (K.written out.new) (K.faults out.old) (K.faults out.new) result }
+{
+    let end = perform::<M, B, S, K>(alloc, board, source, out);
+    finish(out, end)
+}
+
+// Writes the last line, and answers the status. Where another line than `ok` can't be written the status stays.
+fn finish<K: Sink>(out: &mut K, end: Result<u32, Stop>) -> u8
+    ensures { Finishes (K.written out.old) (K.written out.new) (K.faults out.old) (K.faults out.new) end result }
+{
+    match end {
+        Ok(items) => finish_ok(out, items),
+        Err(stop) => finish_stop(out, stop),
+    }
+}
+
+fn finish_ok<K: Sink>(out: &mut K, items: u32) -> u8
+    ensures { Finishes (K.written out.old) (K.written out.new) (K.faults out.old) (K.faults out.new) (Result.Ok items) result }
 {
     let mut line = ReportLine::new();
     let _ = line.extend(b"ok ".as_slice());
     number(&mut line, items);
     let _ = line.extend(b"\n".as_slice());
-    put(out, line.as_slice())
+    match out.write(line.as_slice()) {
+        Ok(()) => 0,
+        Err(_) => 8,
+    }
 }
 
-/// Writes the last line of a run that stopped. Where the sink has failed, or fails here, the status stays.
-pub fn say_stop<K: Sink>(out: &mut K, stop: Stop) -> Result<(), Stop>
-    ensures said { Appends (last_line stop) (K.written out.old) (K.written out.new) result }
-    ensures output { IsErr result → IsErrOf result Stop.Output × Rose (K.faults out.old) (K.faults out.new) }
-    ensures faults { K.faults out.old ≤ K.faults out.new }
+fn finish_stop<K: Sink>(out: &mut K, stop: Stop) -> u8
+    ensures { Finishes (K.written out.old) (K.written out.new) (K.faults out.old) (K.faults out.new) (Result.Err stop) result }
 {
     let line = stop_text(stop);
-    put(out, line.as_slice())
+    let _ = out.write(line.as_slice());
+    status(stop)
 }
 
 fn stop_text(stop: Stop) -> ReportLine
@@ -120,8 +141,8 @@ fn unfinished_text(line: &mut ReportLine, id: u32, count: u32)
     add(line, b"\n".as_slice());
 }
 
-/// The exit status of a run that stopped.
-pub fn status(stop: Stop) -> u8
+// The exit status of a run that stopped.
+fn status(stop: Stop) -> u8
     ensures { result ≡ status_of stop }
 {
     match stop {

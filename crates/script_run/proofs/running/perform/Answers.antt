@@ -8,7 +8,7 @@ use Rattle.script_run.specs.Items.{items_of_text}
 use Rattle.script_run.specs.Top.{Performs, AnswersNone}
 use Rattle.script_run.proofs.RunLemmas.{err_is, is_err}
 use Rattle.script_run.proofs.TopLemmas.{open_keeps, performs_not, performs, opening_none}
-use Rattle.script_run.proofs.run.perform.Goals as goal
+use Rattle.script_run.proofs.running.perform.Goals as goal
 
 pub returns-in-Err-clause-performs : goal.returns-in-Err-clause-performs
 returns-in-Err-clause-performs g c = λ tells Z H text lawful stands left.

@@ -1,0 +1,317 @@
+-- The last line, and what the status says.
+use Rattle.std.proofs.Common.{◌≡◌, ◌⊎◌, inl, inr, ⊎_elim, ℕ, ◌≤◌, List, [], ◌∷◌, ◌++◌, length, Option, Some, None, IsTrue, refl, sym, ◌∙◌, ap, subst, arith, append_assoc, Result, Ok, Err}
+use Rattle.std.specs.Prelude.{IsErrOf, IsSome}
+use Rattle.std.proofs.lemmas.List.{append-nil}
+use Rattle.board_core.specs.Causes.{Rose}
+use Rattle.board_core.specs.Board.{BoardView}
+use Rattle.pef_engine.specs.declared.entry.Entry.{Entry}
+use Rattle.pef_engine.specs.Rules.{Rules, Lawful, Stands, StandsForNone}
+use Rattle.pef_engine.specs.MachineView.{MachineView}
+use Rattle.pef_engine.specs.Lines.{line}
+use Rattle.pef_engine.specs.Scripts.{ScriptRules}
+use Rattle.script_text.specs.Script.{said_of, bad_line}
+use Rattle.script_run.specs.declared.stop.Stop.{Stop}
+use Rattle.script_run.specs.declared.stop.Stop.TheVariants.{Unformatted, Line, Unfinished, Input, Disk, Output, Full, Memory}
+use Rattle.script_run.specs.Items.{IsOther, items_of_text}
+use Rattle.script_run.specs.Report.{report_from, says, ok_line, bad_line_line, unfinished_line}
+use Rattle.script_run.specs.Top.{RunTakes, RunIsWhole, RunStops, IsPartOf, Performs, Finishes, AnswersNone, RunAnswers, RunCall, IsOneOf, last_line, status_of}
+
+module _ {I : Type 0} (rules : Rules I) (scripts : ScriptRules I) (Z : List ℕ) (H : List (Entry I)) (items : List I) (old new : BoardView) where
+  -- part of a last line behind the report
+  pub part_on : (before mid after : Option (List ℕ)) (part : List ℕ) → RunTakes rules (says rules scripts) Z H items old new before mid [] → ((text : List ℕ) → mid ≡ Some text → after ≡ Some (text ++ part)) → RunTakes rules (says rules scripts) Z H items old new before after part
+  part_on before mid after part t wrote =
+      let report = report_from (says rules scripts) Z H (line rules Z H items t.tolds) in record {
+        tolds = t.tolds;
+        told = t.told;
+        taken = t.taken;
+        lasting = t.lasting;
+        written = λ text is. wrote (text ++ (report ++ [])) (t.written text is) ∙ ap Some (ap (λ r. (text ++ r) ++ part) (append-nil report) ∙ append_assoc text report part);
+      }
+
+  -- the last line of a run that stopped
+  pub stops_on : (before mid after : Option (List ℕ)) (w0 w1 w2 : ℕ) (last : List ℕ) → w0 ≤ w1 → RunTakes rules (says rules scripts) Z H items old new before mid []
+      → ((text : List ℕ) → mid ≡ Some text → (part : List ℕ) × (after ≡ Some (text ++ part)) × IsPartOf part last w1 w2) → ((text : List ℕ) → before ≡ Some text → ⊥) ⊎ ((text : List ℕ) × (before ≡ Some text)) → RunStops rules (says rules scripts) Z H items old new before after w0 w2 last
+  stops_on before mid after w0 w1 w2 last later t wrote (inl untold) = record {
+    part = last;
+    is_part = (([], append-nil last), inl refl);
+    takes = record { tolds = t.tolds; told = t.told; taken = t.taken; lasting = t.lasting; written = λ text is. absurd (untold text is) };
+  }
+  stops_on before mid after w0 w1 w2 last later t wrote (inr told) =
+      let report = report_from (says rules scripts) Z H (line rules Z H items t.tolds) in
+      let w = wrote (told.0 ++ (report ++ [])) (t.written told.0 told.1) in record {
+        part = w.0;
+        is_part = (w.2.0, ⊎_elim inl (λ rose. inr (rose_later w0 w1 w2 later rose)) w.2.1);
+        takes = record {
+          tolds = t.tolds;
+          told = t.told;
+          taken = t.taken;
+          lasting = t.lasting;
+          written = λ text is. w.1 ∙ ap (λ x. Some ((x ++ (report ++ [])) ++ w.0)) (same_text told.0 text (sym told.1 ∙ is)) ∙ ap Some (ap (λ r. (text ++ r) ++ w.0) (append-nil report) ∙ append_assoc text report w.0);
+        };
+      }
+    where
+      rose_later : (a b d : ℕ) → a ≤ b → Rose b d → Rose a d
+      rose_later a b d le rose = omega (arith, le, rose)
+
+      same_text : (a b : List ℕ) → Some a ≡ Some b → a ≡ b
+      same_text a b e = cc
+
+told_or_not : (before : Option (List ℕ)) → ((text : List ℕ) → before ≡ Some text → ⊥) ⊎ ((text : List ℕ) × (before ≡ Some text))
+told_or_not None = inl (λ text e. cc e)
+told_or_not (Some text) = inr (text, refl)
+
+none_some : {A : Type 0} (o : Option A) → o ≡ None → IsSome o → ⊥
+none_some None e some = cc some
+none_some (Some x) e some = cc e
+
+module _ {I M : Type 0} (rules : Rules I) (view : M → MachineView I) (scripts : ScriptRules I) (Z : List ℕ) (H : List (Entry I)) (text : List ℕ) (old new : BoardView) (before mid after : Option (List ℕ)) (w0 w1 w2 : ℕ) (later : w0 ≤ w1) (status : ℕ) where
+  abbrev items : List I
+  items = items_of_text scripts text H
+
+  pub run_answers : (end : Result ℕ Stop) → Performs rules view (says rules scripts) scripts Z H text old new before mid end → Finishes mid after w1 w2 end status → (IsErrOf end Unformatted → ⊥)
+      → RunAnswers rules view scripts Z H text old new before after w0 w2 status
+  run_answers (Ok n) p (inl ended) formatted =
+      let is = ended.0 in
+      let wrote = λ (t : List ℕ) (e : mid ≡ Some t). ended.2 t e ∙ ap (λ k. Some (t ++ ok_line k)) p.number in
+      let takes = part_on rules scripts Z H items old new before mid after (ok_line (length items)) (p.takes tt) wrote in record {
+        headline = p.keeps;
+        whole = λ e. record { takes = takes; idle = p.idle takes.tolds takes.told };
+        bad = λ e. absurd (omega (arith, e, is));
+        is_bad = λ not some. absurd (none_some (bad_line (said_of text)) (p.answers not) some);
+        other = λ e. absurd (omega (arith, e, is));
+        is_other = λ o. absurd (p.refuses o);
+        formatted = λ e. absurd (omega (arith, e, is));
+        full = λ e. absurd (omega (arith, e, is));
+      }
+  run_answers (Ok n) p (inr ended) formatted =
+      let is = ended.0 in record {
+        headline = p.keeps;
+        whole = λ e. absurd (omega (arith, e, is));
+        bad = λ e. absurd (omega (arith, e, is));
+        is_bad = λ not some. absurd (none_some (bad_line (said_of text)) (p.answers not) some);
+        other = λ e. absurd (omega (arith, e, is));
+        is_other = λ o. absurd (p.refuses o);
+        formatted = λ e. absurd (omega (arith, e, is));
+        full = λ e. absurd (omega (arith, e, is));
+      }
+  run_answers (Err Unformatted) p ended formatted = absurd (formatted refl)
+  run_answers (Err (Line number)) p ended formatted =
+      let is = ended.0 in
+      let not : IsOther (scripts.script_of H) (said_of text) → ⊥ = λ o. p.refuses o in
+      record {
+        headline = p.keeps;
+        whole = λ e. absurd (omega (arith, e, is));
+        bad = λ e. (number, p.answers not, stops_on rules scripts Z H items old new before mid after w0 w1 w2 (bad_line_line number) later (p.takes tt) ended.2 (told_or_not before));
+        is_bad = λ not some. inl is;
+        other = λ e. absurd (omega (arith, e, is));
+        is_other = λ o. absurd (p.refuses o);
+        formatted = λ e. absurd (omega (arith, e, is));
+        full = λ e. absurd (omega (arith, e, is));
+      }
+  run_answers (Err (Unfinished id count)) p ended formatted =
+      let is = ended.0 in
+      let o = p.other id count refl in
+      record {
+        headline = p.keeps;
+        whole = λ e. absurd (omega (arith, e, is));
+        bad = λ e. absurd (omega (arith, e, is));
+        is_bad = λ not some. absurd (not o);
+        other = λ e. (o, (id, count, p.refuses o, stops_on rules scripts Z H items old new before mid after w0 w1 w2 (unfinished_line id count) later (p.takes tt) ended.2 (told_or_not before)));
+        is_other = λ o. inl is;
+        formatted = λ e. absurd (omega (arith, e, is));
+        full = λ e. absurd (omega (arith, e, is));
+      }
+  run_answers (Err Input) p ended formatted =
+      let is = ended.0 in
+      record {
+        headline = p.keeps;
+        whole = λ e. absurd (omega (arith, e, is));
+        bad = λ e. absurd (omega (arith, e, is));
+        is_bad = λ not some. inr (inl is);
+        other = λ e. absurd (omega (arith, e, is));
+        is_other = λ o. inr (inl is);
+        formatted = λ e. absurd (omega (arith, e, is));
+        full = λ e. absurd (omega (arith, e, is));
+      }
+  run_answers (Err Disk) p ended formatted =
+      let is = ended.0 in
+      record {
+        headline = p.keeps;
+        whole = λ e. absurd (omega (arith, e, is));
+        bad = λ e. absurd (omega (arith, e, is));
+        is_bad = λ not some. inr (inr (inl is));
+        other = λ e. absurd (omega (arith, e, is));
+        is_other = λ o. inr (inr (inl is));
+        formatted = λ e. absurd (omega (arith, e, is));
+        full = λ e. absurd (omega (arith, e, is));
+      }
+  run_answers (Err Output) p ended formatted =
+      let is = ended.0 in
+      record {
+        headline = p.keeps;
+        whole = λ e. absurd (omega (arith, e, is));
+        bad = λ e. absurd (omega (arith, e, is));
+        is_bad = λ not some. inr (inr (inr (inl is)));
+        other = λ e. absurd (omega (arith, e, is));
+        is_other = λ o. absurd (p.refuses o);
+        formatted = λ e. absurd (omega (arith, e, is));
+        full = λ e. absurd (omega (arith, e, is));
+      }
+  run_answers (Err Full) p ended formatted =
+      let is = ended.0 in
+      record {
+        headline = p.keeps;
+        whole = λ e. absurd (omega (arith, e, is));
+        bad = λ e. absurd (omega (arith, e, is));
+        is_bad = λ not some. inr (inr (inr (inr (inl is))));
+        other = λ e. absurd (omega (arith, e, is));
+        is_other = λ o. inr (inr (inr (inl is)));
+        formatted = λ e. absurd (omega (arith, e, is));
+        full = λ e. p.full refl;
+      }
+  run_answers (Err Memory) p ended formatted =
+      let is = ended.0 in
+      record {
+        headline = p.keeps;
+        whole = λ e. absurd (omega (arith, e, is));
+        bad = λ e. absurd (omega (arith, e, is));
+        is_bad = λ not some. inr (inr (inr (inr (inr (inl is)))));
+        other = λ e. absurd (omega (arith, e, is));
+        is_other = λ o. inr (inr (inr (inr (inl is))));
+        formatted = λ e. absurd (omega (arith, e, is));
+        full = λ e. absurd (omega (arith, e, is));
+      }
+
+-- each status comes from what ended the run
+status_ok : (mid after : Option (List ℕ)) (w1 w2 n status : ℕ) → Finishes mid after w1 w2 (Ok n) status → (status ≡ 0) ⊎ ((status ≡ 8) × Rose w1 w2)
+status_ok mid after w1 w2 n status (inl ended) = inl ended.0
+status_ok mid after w1 w2 n status (inr ended) = inr (ended.0, ended.2)
+
+module _ {I M : Type 0} (rules : Rules I) (view : M → MachineView I) (scripts : ScriptRules I) (old new : BoardView) (source : Option (List ℕ)) (r0 r1 : ℕ) (before mid after : Option (List ℕ)) (w0 w1 w2 : ℕ) (later : w0 ≤ w1) (status : ℕ) where
+  pub run_call : (end : Result ℕ Stop)
+      → (IsTrue new.tells → (Z : List ℕ) (H : List (Entry I)) (text : List ℕ) → Lawful rules Z H → Stands rules Z H old.octets → source ≡ Some text → Performs rules view (says rules scripts) scripts Z H text old new before mid end)
+      → Finishes mid after w1 w2 end status → (IsErrOf end Unformatted → IsTrue new.tells → StandsForNone rules old.octets)
+      → (IsTrue new.tells → StandsForNone rules old.octets → AnswersNone end × (new.octets ≡ old.octets) × (new.sent ≡ old.sent))
+      → (IsErrOf end Memory → IsTrue rules.takes_memory ⊎ (IsTrue new.tells → (new.octets ≡ old.octets) × (new.sent ≡ old.sent)))
+      → (IsErrOf end Disk → Rose old.disk_faults new.disk_faults) → (IsErrOf end Output → Rose w0 w1) → (IsErrOf end Input → Rose r0 r1)
+      → RunCall rules view scripts old new source r0 r1 before after w0 w2 status
+  run_call (Ok n) performs (inl e) unformatted nothing memory disk output input =
+      let is = e.0 in
+      record {
+        answers = λ tells Z H text lawful stands told. run_answers rules view scripts Z H text old new before mid after w0 w1 w2 later status (Ok n) (performs tells Z H text lawful stands told) (inl e) (λ u. unformatted u tells Z H lawful stands);
+        statuses = inl is;
+        unformatted = λ e. absurd (omega (arith, e, is));
+        is_unformatted = λ tells none. absurd ((nothing tells none).0);
+        input = λ e. absurd (omega (arith, e, is));
+        disk = λ e. absurd (omega (arith, e, is));
+        output = λ e. absurd (omega (arith, e, is));
+        memory = λ e. absurd (omega (arith, e, is));
+      }
+  run_call (Ok n) performs (inr e) unformatted nothing memory disk output input =
+      let is = e.0 in
+      record {
+        answers = λ tells Z H text lawful stands told. run_answers rules view scripts Z H text old new before mid after w0 w1 w2 later status (Ok n) (performs tells Z H text lawful stands told) (inr e) (λ u. unformatted u tells Z H lawful stands);
+        statuses = inr (inr (inr (inr (inr (inr (inl is))))));
+        unformatted = λ e. absurd (omega (arith, e, is));
+        is_unformatted = λ tells none. absurd ((nothing tells none).0);
+        input = λ e. absurd (omega (arith, e, is));
+        disk = λ e. absurd (omega (arith, e, is));
+        output = λ s. omega (arith, later, e.2);
+        memory = λ e. absurd (omega (arith, e, is));
+      }
+  run_call (Err Unformatted) performs ended unformatted nothing memory disk output input =
+      let is = ended.0 in
+      record {
+        answers = λ tells Z H text lawful stands told. run_answers rules view scripts Z H text old new before mid after w0 w1 w2 later status (Err Unformatted) (performs tells Z H text lawful stands told) ended (λ u. unformatted u tells Z H lawful stands);
+        statuses = inr (inl is);
+        unformatted = λ s. unformatted refl;
+        is_unformatted = λ tells none. let u = nothing tells none in (inl is, u.1, u.2);
+        input = λ e. absurd (omega (arith, e, is));
+        disk = λ e. absurd (omega (arith, e, is));
+        output = λ e. absurd (omega (arith, e, is));
+        memory = λ e. absurd (omega (arith, e, is));
+      }
+  run_call (Err (Line number)) performs ended unformatted nothing memory disk output input =
+      let is = ended.0 in
+      record {
+        answers = λ tells Z H text lawful stands told. run_answers rules view scripts Z H text old new before mid after w0 w1 w2 later status (Err (Line number)) (performs tells Z H text lawful stands told) ended (λ u. unformatted u tells Z H lawful stands);
+        statuses = inr (inr (inl is));
+        unformatted = λ e. absurd (omega (arith, e, is));
+        is_unformatted = λ tells none. absurd ((nothing tells none).0);
+        input = λ e. absurd (omega (arith, e, is));
+        disk = λ e. absurd (omega (arith, e, is));
+        output = λ e. absurd (omega (arith, e, is));
+        memory = λ e. absurd (omega (arith, e, is));
+      }
+  run_call (Err (Unfinished id count)) performs ended unformatted nothing memory disk output input =
+      let is = ended.0 in
+      record {
+        answers = λ tells Z H text lawful stands told. run_answers rules view scripts Z H text old new before mid after w0 w1 w2 later status (Err (Unfinished id count)) (performs tells Z H text lawful stands told) ended (λ u. unformatted u tells Z H lawful stands);
+        statuses = inr (inr (inr (inl is)));
+        unformatted = λ e. absurd (omega (arith, e, is));
+        is_unformatted = λ tells none. absurd ((nothing tells none).0);
+        input = λ e. absurd (omega (arith, e, is));
+        disk = λ e. absurd (omega (arith, e, is));
+        output = λ e. absurd (omega (arith, e, is));
+        memory = λ e. absurd (omega (arith, e, is));
+      }
+  run_call (Err Input) performs ended unformatted nothing memory disk output input =
+      let is = ended.0 in
+      record {
+        answers = λ tells Z H text lawful stands told. run_answers rules view scripts Z H text old new before mid after w0 w1 w2 later status (Err Input) (performs tells Z H text lawful stands told) ended (λ u. unformatted u tells Z H lawful stands);
+        statuses = inr (inr (inr (inr (inl is))));
+        unformatted = λ e. absurd (omega (arith, e, is));
+        is_unformatted = λ tells none. absurd ((nothing tells none).0);
+        input = λ s. input refl;
+        disk = λ e. absurd (omega (arith, e, is));
+        output = λ e. absurd (omega (arith, e, is));
+        memory = λ e. absurd (omega (arith, e, is));
+      }
+  run_call (Err Disk) performs ended unformatted nothing memory disk output input =
+      let is = ended.0 in
+      record {
+        answers = λ tells Z H text lawful stands told. run_answers rules view scripts Z H text old new before mid after w0 w1 w2 later status (Err Disk) (performs tells Z H text lawful stands told) ended (λ u. unformatted u tells Z H lawful stands);
+        statuses = inr (inr (inr (inr (inr (inl is)))));
+        unformatted = λ e. absurd (omega (arith, e, is));
+        is_unformatted = λ tells none. let u = nothing tells none in (inr (inl is), u.1, u.2);
+        input = λ e. absurd (omega (arith, e, is));
+        disk = λ s. disk refl;
+        output = λ e. absurd (omega (arith, e, is));
+        memory = λ e. absurd (omega (arith, e, is));
+      }
+  run_call (Err Output) performs ended unformatted nothing memory disk output input =
+      let is = ended.0 in
+      record {
+        answers = λ tells Z H text lawful stands told. run_answers rules view scripts Z H text old new before mid after w0 w1 w2 later status (Err Output) (performs tells Z H text lawful stands told) ended (λ u. unformatted u tells Z H lawful stands);
+        statuses = inr (inr (inr (inr (inr (inr (inl is))))));
+        unformatted = λ e. absurd (omega (arith, e, is));
+        is_unformatted = λ tells none. absurd ((nothing tells none).0);
+        input = λ e. absurd (omega (arith, e, is));
+        disk = λ e. absurd (omega (arith, e, is));
+        output = λ s. omega (arith, output refl, ended.1);
+        memory = λ e. absurd (omega (arith, e, is));
+      }
+  run_call (Err Full) performs ended unformatted nothing memory disk output input =
+      let is = ended.0 in
+      record {
+        answers = λ tells Z H text lawful stands told. run_answers rules view scripts Z H text old new before mid after w0 w1 w2 later status (Err Full) (performs tells Z H text lawful stands told) ended (λ u. unformatted u tells Z H lawful stands);
+        statuses = inr (inr (inr (inr (inr (inr (inr (inl is)))))));
+        unformatted = λ e. absurd (omega (arith, e, is));
+        is_unformatted = λ tells none. let u = nothing tells none in (inr (inr (inl is)), u.1, u.2);
+        input = λ e. absurd (omega (arith, e, is));
+        disk = λ e. absurd (omega (arith, e, is));
+        output = λ e. absurd (omega (arith, e, is));
+        memory = λ e. absurd (omega (arith, e, is));
+      }
+  run_call (Err Memory) performs ended unformatted nothing memory disk output input =
+      let is = ended.0 in
+      record {
+        answers = λ tells Z H text lawful stands told. run_answers rules view scripts Z H text old new before mid after w0 w1 w2 later status (Err Memory) (performs tells Z H text lawful stands told) ended (λ u. unformatted u tells Z H lawful stands);
+        statuses = inr (inr (inr (inr (inr (inr (inr (inr (inl is))))))));
+        unformatted = λ e. absurd (omega (arith, e, is));
+        is_unformatted = λ tells none. let u = nothing tells none in (inr (inr (inr (inl is))), u.1, u.2);
+        input = λ e. absurd (omega (arith, e, is));
+        disk = λ e. absurd (omega (arith, e, is));
+        output = λ e. absurd (omega (arith, e, is));
+        memory = λ s. memory refl;
+      }
