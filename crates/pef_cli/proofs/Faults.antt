@@ -1,5 +1,5 @@
 -- Which fault has which status.
-use Rattle.std.proofs.Common.{◌≡◌, ◌≢◌, ◌⊎◌, inl, inr, ℕ, List, [], ◌∷◌, ⊎_elim, refl, ap, subst, arith}
+use Rattle.std.proofs.Common.{◌≡◌, ◌≢◌, ◌⊎◌, inl, inr, [], ◌∷◌, ⊎_elim, refl, ap, subst, arith}
 use Rattle.pef_cli.specs.declared.init_fault.InitFault.{InitFault}
 use Rattle.pef_cli.specs.declared.init_fault.InitFault.TheVariants.{Disk, Formatted, Input, Settings, Memory}
 use Rattle.pef_cli.specs.Init.{status_of}

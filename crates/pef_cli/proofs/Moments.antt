@@ -1,6 +1,6 @@
 -- What a crash in a call of `init` leaves.
-use Rattle.std.proofs.Common.{◌≡◌, ◌⊎◌, inl, inr, ⊎_elim, ℕ, ◌≤◌, List, Option, Some, None, Bool, true, false, is_some, arith, ap, ◌∙◌, subst, true≢false}
-use Rattle.board_core.specs.Board.{BoardView, Left, LeftNow, LeavesOnly, SyncsFirst, SameSteps, steps_of, tolds_of}
+use Rattle.std.proofs.Common.{◌≡◌, inl, inr, ⊎_elim, ℕ, List, Option, Some, None, false, is_some, arith, ap, ◌∙◌, subst, true≢false}
+use Rattle.board_core.specs.Board.{BoardView, Left, LeavesOnly, SyncsFirst, SameSteps, steps_of, tolds_of}
 use Rattle.pef_journal.specs.Image.{IsFormatted, IsEmptyOrUnformatted, KindIs}
 use Rattle.pef_journal.specs.Journal.{LeavesAsRead}
 use Rattle.pef_cli.specs.Init.{controller, Gives, SyncsThen, LeavesMade, KeepsMoments}

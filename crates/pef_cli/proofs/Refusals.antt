@@ -1,5 +1,5 @@
 -- A call of `init` that ends with a fault.
-use Rattle.std.proofs.Common.{◌≡◌, ◌≢◌, ◌⊎◌, inl, inr, ⊎_elim, ℕ, ◌+◌, ◌≤◌, List, Option, Some, None, Result, Ok, Err, IsTrue, IsErrOf, arith, ap, ◌∙◌, sym, subst, refl}
+use Rattle.std.proofs.Common.{◌≡◌, ◌≢◌, ◌⊎◌, inl, inr, ⊎_elim, ℕ, ◌≤◌, List, Option, Some, None, Result, Ok, Err, IsTrue, IsErrOf, ap, ◌∙◌, sym, subst, refl}
 use Rattle.board_core.specs.declared.sink.SinkFailed.{SinkFailed}
 use Rattle.board_core.specs.Causes.{Rose, HasCause}
 use Rattle.board_core.specs.Source.{Appends}
@@ -9,7 +9,7 @@ use Rattle.script_text.specs.Settings.{settings_of}
 use Rattle.pef_cli.specs.declared.init_fault.InitFault.{InitFault}
 use Rattle.pef_cli.specs.declared.init_fault.InitFault.TheVariants.{Disk, Formatted, Input, Settings, Memory}
 use Rattle.pef_cli.specs.Init.{status_of, GivesNone, KeepsMoments, Inits}
-use Rattle.pef_cli.specs.Output.{last_line, Says}
+use Rattle.pef_cli.specs.Output.{last_line}
 use Rattle.pef_cli.proofs.Written.{wrote}
 use Rattle.pef_cli.proofs.Faults.{not_zero, not_eight, at_four, at_six, at_seven, at_eleven, is_status, not_disk, not_made, if_formatted, if_unformatted}
 

@@ -1,5 +1,5 @@
 -- What a call of the program answers to its words.
-use Rattle.std.specs.Prelude.{◌≡◌, ◌≢◌, ℕ, List, Option, Some, None}
+use Rattle.std.specs.Prelude.{◌≡◌, ℕ, List, Some, None}
 use Rattle.pef_cli.specs.declared.form.Form.{Form}
 use Rattle.pef_cli.specs.Words.{paths_of, two_files}
 

@@ -1,6 +1,6 @@
-use Rattle.std.proofs.Common.{ℕ, List, ◌∙◌, sym, subst}
+use Rattle.std.proofs.Common.{ℕ, List, sym, subst}
 use Rattle.board_core.specs.Source.{Appends}
-use Rattle.pef_cli.specs.Init.{Inits, status_of}
+use Rattle.pef_cli.specs.Init.{Inits}
 use Rattle.pef_cli.proofs.Refusals.{refusal}
 use Rattle.pef_cli.proofs.initializing.init.Goals as goal
 
