@@ -4,11 +4,17 @@ ghost use Rattle.pef_cli.specs.declared.form.Form.TheVariants.{Init, Run};
 ghost use Rattle.pef_cli.specs.Init.{Inits};
 ghost use Rattle.pef_cli.specs.Output.{Says};
 ghost use Rattle.pef_cli.specs.Top.{IsNoForm, IsOfForm};
+ghost use Rattle.pef_core.specs.Histories.{controller_rules};
+ghost use Rattle.pef_core.specs.Report.{controller_scripts};
+ghost use Rattle.pef_core.specs.View.{view_of};
+ghost use Rattle.script_run.specs.Top.{RunCall};
 
 use crate::form::Form;
 use crate::initializing::init;
 use crate::words::paths;
 use board_core::{Board, Sink, Source};
+use pef_core::Controller;
+use script_run::run;
 use std::alloc::Global;
 
 /// Does what the words behind the program's name ask for, and answers the status. `board` is the state file of the form, `source` its
@@ -22,17 +28,18 @@ pub fn top<B: Board, S: Source, K: Sink>(
 ) -> u8
     ensures usage { IsNoForm (map string_bytes words.now) → (result ≡ 2) × (board.new ≡ board.old) × (source.new ≡ source.old)
         × Says (K.written out.old) (K.written out.new) (K.faults out.old) (K.faults out.new) result }
-    // `run` isn't there yet
-    ensures is_usage { result ≡ 2 → IsNoForm (map string_bytes words.now) ⊎ IsOfForm Run (map string_bytes words.now) }
+    ensures is_usage { result ≡ 2 → IsNoForm (map string_bytes words.now) }
     ensures init { IsOfForm Init (map string_bytes words.now) → Inits (B.view board.old) (B.view board.new) (S.left source.old) (S.faults source.old) (S.faults source.new)
         (K.written out.old) (K.written out.new) (K.faults out.old) (K.faults out.new) result }
+    ensures run { IsOfForm Run (map string_bytes words.now) → RunCall controller_rules view_of controller_scripts (B.view board.old) (B.view board.new)
+        (S.left source.old) (S.faults source.old) (S.faults source.new) (K.written out.old) (K.written out.new) (K.faults out.old) (K.faults out.new) result }
 {
     let Some(paths) = paths(words) else {
         return usage(out);
     };
     match paths.form {
         Form::Init => init(alloc, board, source, out),
-        Form::Run => usage(out),
+        Form::Run => run::<Controller, B, S, K>(alloc, board, source, out),
     }
 }
 
