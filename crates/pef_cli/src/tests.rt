@@ -42,6 +42,7 @@ struct Case<'a> {
     status: u8,
     written: &'a str,
     after: &'a [u8],
+    steps: usize,
 }
 
 fn words_in(alloc: Global, words: &[&str]) -> Result<Vec<String>, AllocError> {
@@ -64,7 +65,7 @@ fn check(rt: &impl Abort, alloc: Global, words: &[&str], case: &Case<'_>) {
     assert_eq!(rt; status, case.status, "{what}: status");
     assert_eq!(rt; out.written(), case.written.as_bytes(), "{what}: output");
     assert!(rt; board.octets() == case.after, "{what}: file");
-    assert!(rt; board.issued().is_empty(), "{what}: steps");
+    assert_eq!(rt; board.issued().len(), case.steps, "{what}: steps");
 }
 
 const WORDS: [&str; 3] = ["init", "state", "settings.toml"];
@@ -79,6 +80,7 @@ const MADE_OF_NOTHING: Case<'static> = Case {
     status: 0,
     written: "ok 0\n",
     after: &MADE,
+    steps: 0,
 };
 
 #[test]
@@ -254,5 +256,128 @@ fn other_words_are_no_form(rt: HostRuntime) {
             };
             check(&rt, rt.alloc(), words, &unused);
         }
+    }
+}
+
+const RUN: [&str; 3] = ["run", "state", "script"];
+
+const SCRIPT: &str = "script 00000001 1\nevent 01000200ca9a3b200004043001521020\nend\n";
+
+// Entries with their gates: a script of one item is opened, a fan's event, what its step was told, and the script is closed.
+const OPENED: [u8; 12] = [0xa5, 9, 0, 5, 1, 0, 0, 0, 1, 0, 0, 0];
+
+const EVENT: [u8; 20] = [
+    0xa5, 17, 0, 1, 1, 0, 2, 0, 0xca, 0x9a, 0x3b, 0x20, 0, 4, 4, 0x30, 1, 0x52, 0x10, 0x20,
+];
+
+const DONE: [u8; 5] = [0xa5, 2, 0, 0x10, 0];
+
+const CLOSED: [u8; 4] = [0xa5, 1, 0, 6];
+
+// A controller's file with these entries.
+fn file_with(alloc: Global, entries: &[&[u8]]) -> Result<Vec<u8>, AllocError> {
+    let mut file = MADE[..59].to_vec(alloc)?;
+    for entry in entries {
+        file.extend_from_slice(entry)?;
+    }
+    file.push(0)?;
+    Ok(file)
+}
+
+#[test]
+fn run_leaves_and_says(rt: HostRuntime) {
+    let alloc = rt.alloc();
+    let begun = file_with(alloc, &[&OPENED]).expect(&rt, "memory");
+    let pending = file_with(alloc, &[&OPENED, &EVENT]).expect(&rt, "memory");
+    let whole = file_with(alloc, &[&OPENED, &EVENT, &DONE, &CLOSED]).expect(&rt, "memory");
+    let run = Case {
+        what: "one event",
+        file: &MADE,
+        text: SCRIPT,
+        failing_disk: &[],
+        failing_source: &[],
+        failing_sink: None,
+        status: 0,
+        written: "open 00000001 1\nevent 0001\nact diagnostic 0001 done\nclose\nok 3\n",
+        after: whole.as_slice(),
+        steps: 1,
+    };
+    let stopped = Case {
+        after: &MADE,
+        steps: 0,
+        ..run
+    };
+    let cases = [
+        run,
+        Case {
+            what: "the same once more",
+            file: whole.as_slice(),
+            written: "ok 0\n",
+            steps: 0,
+            ..run
+        },
+        Case {
+            what: "behind a crash before the outcome was stored",
+            file: pending.as_slice(),
+            written: "act diagnostic 0001 done\nclose\nok 1\n",
+            ..run
+        },
+        Case {
+            what: "a bad line",
+            text: "script 00000001 1\nevent 01\nend\n",
+            status: 4,
+            written: "open 00000001 1\nline 2\n",
+            after: begun.as_slice(),
+            ..stopped
+        },
+        Case {
+            what: "no line",
+            text: "",
+            status: 4,
+            written: "line 1\n",
+            ..stopped
+        },
+        Case {
+            what: "another script is unfinished",
+            file: begun.as_slice(),
+            text: "script 00000002 1\n",
+            status: 5,
+            written: "unfinished 00000001 1\n",
+            after: begun.as_slice(),
+            ..stopped
+        },
+        Case {
+            what: "a file of no kind",
+            file: &[0xa5],
+            status: 3,
+            written: "unformatted\n",
+            after: &[0xa5],
+            ..stopped
+        },
+        Case {
+            what: "a source that fails",
+            failing_source: &[0],
+            status: 6,
+            written: "input failed\n",
+            ..stopped
+        },
+        Case {
+            what: "a disk that fails",
+            failing_disk: &[0],
+            status: 7,
+            written: "disk failed\n",
+            ..stopped
+        },
+        Case {
+            what: "a sink that fails",
+            failing_sink: Some(0),
+            status: 8,
+            written: "",
+            after: begun.as_slice(),
+            ..stopped
+        },
+    ];
+    for case in &cases {
+        check(&rt, alloc, &RUN, case);
     }
 }

@@ -1,10 +1,10 @@
 -- What a crash leaves while a step is issued and its outcome stored.
-use Rattle.std.proofs.Common.{◌≡◌, ◌⊎◌, inl, inr, ⊎_elim, ℕ, ◌+◌, ◌≤◌, List, [], ◌∷◌, ◌++◌, length, map, Option, Some, None, IsTrue, refl, sym, ◌∙◌, ap, subst, arith}
+use Rattle.std.proofs.Common.{◌≡◌, ◌⊎◌, inl, inr, ⊎_elim, ℕ, ◌≤◌, List, [], ◌∷◌, ◌++◌, map, Some, None, IsTrue, refl, sym, ◌∙◌, ap, subst, arith}
 use Rattle.std.proofs.lemmas.List.{append-nil, map-append}
 use Rattle.board_core.specs.declared.step.Step.{Step}
 use Rattle.board_core.specs.declared.step.Told.{Told}
 use Rattle.board_core.specs.declared.step.Sent.{Sent}
-use Rattle.board_core.specs.Board.{BoardView, Left, LeftNow, LeftInFlight, IsSound, IsFileCall, Issues, LeavesOnly, SameSteps, steps_of, tolds_of, Only}
+use Rattle.board_core.specs.Board.{BoardView, Left, LeftNow, LeftInFlight, IsSound, Issues, LeavesOnly, SameSteps, steps_of, tolds_of}
 use Rattle.pef_engine.specs.declared.entry.Entry.{Entry}
 use Rattle.pef_engine.specs.declared.entry.Entry.TheVariants.{Item, Outcome}
 use Rattle.pef_journal.specs.Image as image

@@ -1,5 +1,5 @@
 -- Prefixes of a line, and the steps that they prescribe.
-use Rattle.std.proofs.Common.{◌≡◌, ◌⊎◌, inl, inr, ℕ, ◌+◌, List, [], ◌∷◌, ◌++◌, length, take, map, Option, Some, None, refl, sym, ◌∙◌, ap, subst, arith, length-append, append_assoc}
+use Rattle.std.proofs.Common.{◌≡◌, inl, inr, ℕ, List, [], ◌∷◌, ◌++◌, length, take, map, Some, None, refl, sym, ◌∙◌, ap, arith, length-append, append_assoc}
 use Rattle.std.proofs.lemmas.List.{take_at, append-nil, length-map}
 use Rattle.board_core.specs.declared.step.Step.{Step}
 use Rattle.board_core.specs.declared.step.Told.{Told}

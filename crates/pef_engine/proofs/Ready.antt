@@ -1,5 +1,5 @@
 -- Where nothing is made ready nothing has changed.
-use Rattle.std.proofs.Common.{◌≡◌, ℕ, List, refl}
+use Rattle.std.proofs.Common.{refl}
 use Rattle.pef_engine.specs.MachineView.{MachineView, KeepsAllButReady}
 
 pub keeps_all : {I : Type 0} (view : MachineView I) → KeepsAllButReady view view

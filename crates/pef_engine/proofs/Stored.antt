@@ -1,12 +1,10 @@
 -- What is stored stays so while a step is issued.
-use Rattle.std.proofs.Common.{◌≡◌, ◌⊎◌, inl, inr, ⊎_elim, ℕ, ◌≤◌, List, [], ◌∷◌, ◌++◌, length, map, Option, Some, None, IsTrue, IsSome, refl, sym, ◌∙◌, ap, subst, arith, append_assoc}
-use Rattle.std.proofs.lemmas.List.{append-nil, map-append}
-use Rattle.board_core.specs.declared.step.Step.{Step}
-use Rattle.board_core.specs.declared.step.Told.{Told}
-use Rattle.board_core.specs.Board.{BoardView, Left, LeftNow, IsSound, Issues, LeavesOnly}
+use Rattle.std.proofs.Common.{◌≡◌, inl, ℕ, List, [], ◌∷◌, ◌++◌, length, IsTrue, sym, ◌∙◌, ap, subst, arith, append_assoc}
+use Rattle.std.proofs.lemmas.List.{append-nil}
+use Rattle.board_core.specs.Board.{BoardView, IsSound, LeavesOnly}
 use Rattle.pef_engine.specs.declared.entry.Entry.{Entry}
 use Rattle.pef_journal.specs.Image as image
-use Rattle.pef_journal.specs.Journal.{IsAt, IsAtEnd}
+use Rattle.pef_journal.specs.Journal.{IsAtEnd}
 use Rattle.pef_journal.specs.declared.journal.Journal.{Journal}
 use Rattle.pef_engine.specs.Rules.{Rules, Allowed, LawfulFrom, Lawful, Stands}
 use Rattle.pef_engine.specs.Lines.{LeavesPrefix}

@@ -2,18 +2,17 @@
 use Rattle.std.specs.Prelude.{◌≡◌, ◌⊎◌, ⊤, ℕ, ◌+◌, List, [], ◌∷◌, ◌++◌, length, map, Option, Some, None, IsTrue, Result, IfOk, OnOk, IsErr, IsErrOf}
 use Rattle.board_core.specs.declared.step.Step.{Step}
 use Rattle.board_core.specs.declared.step.Told.{Told}
-use Rattle.board_core.specs.declared.step.Sent.{Sent}
-use Rattle.board_core.specs.Board.{BoardView, Left, LeavesOnly, SyncsFirst, NeverSynced, HasRoomFor, steps_of, tolds_of}
-use Rattle.pef_journal.specs.Journal.{IsAt, IsAtEnd, HasRead, HasRoom, HasEnded}
+use Rattle.board_core.specs.Board.{BoardView, SyncsFirst, NeverSynced, HasRoomFor}
+use Rattle.pef_journal.specs.Journal.{IsAtEnd, HasRead, HasRoom, HasEnded}
 use Rattle.pef_journal.specs.declared.journal.Journal.{Journal}
 use Rattle.pef_engine.specs.declared.entry.Entry.{Entry}
-use Rattle.pef_engine.specs.declared.entry.Entry.TheVariants.{Item, Outcome}
+use Rattle.pef_engine.specs.declared.entry.Entry.TheVariants.{Outcome}
 use Rattle.pef_engine.specs.declared.engine.Engine.{Engine}
 use Rattle.pef_engine.specs.declared.faults.EngineFault.{EngineFault}
 use Rattle.pef_engine.specs.declared.faults.EngineFault.TheVariants.{NotFormatted, Corrupt, DiskFault, Full, Memory}
-use Rattle.pef_engine.specs.Rules.{Rules, Lawful, LawfulFrom, Stands, Decodes, BreaksAt}
+use Rattle.pef_engine.specs.Rules.{Rules, Lawful, Decodes, BreaksAt}
 use Rattle.pef_engine.specs.MachineView.{MachineView}
-use Rattle.pef_engine.specs.Lines.{LeavesPrefix, items_of, entry_items, entry_tolds, prescribed}
+use Rattle.pef_engine.specs.Lines.{LeavesPrefix}
 
 abbrev pub IsLive : {M I : Type 0} → Engine M I → Type 0
 IsLive engine = IsTrue engine.live × HasEnded engine.journal

@@ -1,5 +1,5 @@
 -- The run without a crash, the steps that a history prescribes, and what of both a crash leaves.
-use Rattle.std.specs.Prelude.{◌≡◌, ◌⊎◌, ⊤, ℕ, zero, suc, ◌+◌, List, [], ◌∷◌, ◌++◌, length, map, Option, Some, None, IsSome}
+use Rattle.std.specs.Prelude.{◌≡◌, ◌⊎◌, ℕ, zero, suc, ◌+◌, List, [], ◌∷◌, ◌++◌, length, Option, Some, None}
 use Rattle.board_core.specs.declared.step.Step.{Step}
 use Rattle.board_core.specs.declared.step.Told.{Told}
 use Rattle.board_core.specs.Board.{BoardView, Left, steps_of, tolds_of}

@@ -1,7 +1,6 @@
 -- What the histories of a kind of machine mean.
 use Rattle.std.specs.Prelude.{◌≡◌, ◌⊎◌, ⊤, ℕ, Bool, List, [], ◌∷◌, ◌++◌, length, map, Option, Some, None, IsSome}
 use Rattle.board_core.specs.declared.step.Step.{Step}
-use Rattle.board_core.specs.declared.step.Told.{Told}
 use Rattle.pef_engine.specs.declared.entry.Entry.{Entry}
 use Rattle.pef_engine.specs.declared.entry.Entry.TheVariants.{Item, Outcome}
 use Rattle.pef_journal.specs.Image as image

@@ -73,11 +73,11 @@ impl<M: Machine> Engine<M> {
             Err(error) => return Err(EngineFault::Memory(error)),
         };
         let mut payload = Payload::new();
-        'gates: loop {
+        'entries: loop {
             let gate = journal.place();
             match journal.entry(board, &mut payload) {
                 Ok(true) => {}
-                Ok(false) => break 'gates,
+                Ok(false) => break 'entries,
                 Err(fault) => return Err(fault_of(fault)),
             }
             let Some(entry) = M::decode_entry(payload.as_slice()) else {

@@ -1,19 +1,14 @@
-use Rattle.std.proofs.Common.{rules, ◌≡◌, ◌⊎◌, inl, inr, ⊎_elim, ℕ, List, [], ◌∷◌, ◌++◌, length, map, Option, Some, None, Result, Ok, Err, Bool, true, false, IsTrue, refl, sym, ◌∙◌, ap, subst, arith}
+use Rattle.std.proofs.Common.{rules, ◌≡◌, inr, ⊎_elim, ℕ, List, map, Some, Ok, true, false, IsTrue, refl, sym, ◌∙◌, subst}
 use Rattle.std.proofs.lemmas.List.{append-nil}
-use Rattle.std.specs.Prelude.{IsErrOf}
-use Rattle.board_core.specs.Board.{Left, SameSteps, IsFileRun, SyncsFirst, NeverSynced}
 use Rattle.pef_engine.specs.declared.entry.Entry.{Entry}
-use Rattle.pef_journal.specs.declared.fault.JournalFault.{JournalFault}
-use Rattle.pef_journal.specs.declared.fault.JournalFault.TheVariants as journal
-use Rattle.pef_engine.specs.declared.faults.EngineFault.{EngineFault}
-use Rattle.pef_engine.specs.declared.faults.EngineFault.TheVariants.{NotFormatted, Corrupt, DiskFault, Full, Memory}
+use Rattle.pef_engine.specs.declared.faults.EngineFault.TheVariants.{NotFormatted, Corrupt, Memory}
 use Rattle.pef_engine.specs.declared.engine.Engine.{Engine}
 use Rattle.pef_journal.specs.Image as image
-use Rattle.pef_journal.specs.Journal.{IsAt, GivesEntry, ReadsOn, Finds, LeavesAsRead, HasRead}
-use Rattle.pef_engine.specs.Rules.{Rules, Allowed, Lawful, Stands, StandsForSome, Decodes, BreaksAt}
-use Rattle.pef_engine.specs.MachineView.{GoesOn}
-use Rattle.pef_engine.specs.Engine.{Holds, Replayed, AllDecode, HasCorruptCause}
-use Rattle.pef_engine.proofs.Replaying.{syncs_reads, run_reads, open_fails, open_ends, stands_before, breaks, journal_cause, holds_at_end, next_of, replayed_on}
+use Rattle.pef_journal.specs.Journal.{GivesEntry, ReadsOn, Finds, LeavesAsRead}
+use Rattle.pef_engine.specs.Rules.{Allowed, Lawful, Stands, Decodes, BreaksAt}
+use Rattle.pef_engine.specs.Engine.{HasCorruptCause}
+use Rattle.pef_journal.proofs.Moments.{syncs_reads, run_compose}
+use Rattle.pef_engine.proofs.Replaying.{open_fails, open_ends, stands_before, breaks, journal_cause, holds_at_end, next_of, replayed_on}
 use Rattle.pef_engine.proofs.engine.Engine.replay.Goals as goal
 
 pub returns-in-Err-fresh-clause-opened : goal.returns-in-Err-fresh-clause-opened
@@ -22,40 +17,40 @@ returns-in-Err-fresh-clause-opened g c = λ tells Z H lawful stands.
     (Memory c.in-Err-fresh.error) (c.open.ensures.synced tells) (λ err. cc err) (λ at err. cc err)
 
 pub returns-in-Err-entry-clause-moments : goal.returns-in-Err-entry-clause-moments
-returns-in-Err-entry-clause-moments g c = λ tells. inr (syncs_reads (g.B.Board.view c.args.board.now) (g.B.Board.view c.gates.board) (g.B.Board.view c.entry.new.board) (LeavesAsRead (g.B.Board.view c.args.board.now))
-    (g.met.B.Board.sound c.gates.board) (g.met.B.Board.sound c.entry.new.board) c.entry.ensures.file tells (c.gates.invariant.moments (c.entry.ensures.file.call.run.tells tells)))
+returns-in-Err-entry-clause-moments g c = λ tells. inr (syncs_reads (g.B.Board.view c.args.board.now) (g.B.Board.view c.entries.board) (g.B.Board.view c.entry.new.board) (LeavesAsRead (g.B.Board.view c.args.board.now))
+    (g.met.B.Board.sound c.entries.board) (g.met.B.Board.sound c.entry.new.board) c.entry.ensures.file tells (c.entries.invariant.moments (c.entry.ensures.file.call.run.tells tells)))
 
 pub returns-in_default-clause-moments : goal.returns-in_default-clause-moments
-returns-in_default-clause-moments g c = λ tells. inr (syncs_reads (g.B.Board.view c.args.board.now) (g.B.Board.view c.gates.board) (g.B.Board.view c.entry.new.board) (LeavesAsRead (g.B.Board.view c.args.board.now))
-    (g.met.B.Board.sound c.gates.board) (g.met.B.Board.sound c.entry.new.board) c.entry.ensures.file tells (c.gates.invariant.moments (c.entry.ensures.file.call.run.tells tells)))
+returns-in_default-clause-moments g c = λ tells. inr (syncs_reads (g.B.Board.view c.args.board.now) (g.B.Board.view c.entries.board) (g.B.Board.view c.entry.new.board) (LeavesAsRead (g.B.Board.view c.args.board.now))
+    (g.met.B.Board.sound c.entries.board) (g.met.B.Board.sound c.entry.new.board) c.entry.ensures.file tells (c.entries.invariant.moments (c.entry.ensures.file.call.run.tells tells)))
 
 pub returns-then-not-allows-clause-moments : goal.returns-then-not-allows-clause-moments
-returns-then-not-allows-clause-moments g c = λ tells. inr (syncs_reads (g.B.Board.view c.args.board.now) (g.B.Board.view c.gates.board) (g.B.Board.view c.entry.new.board) (LeavesAsRead (g.B.Board.view c.args.board.now))
-    (g.met.B.Board.sound c.gates.board) (g.met.B.Board.sound c.entry.new.board) c.entry.ensures.file tells (c.gates.invariant.moments (c.entry.ensures.file.call.run.tells tells)))
+returns-then-not-allows-clause-moments g c = λ tells. inr (syncs_reads (g.B.Board.view c.args.board.now) (g.B.Board.view c.entries.board) (g.B.Board.view c.entry.new.board) (LeavesAsRead (g.B.Board.view c.args.board.now))
+    (g.met.B.Board.sound c.entries.board) (g.met.B.Board.sound c.entry.new.board) c.entry.ensures.file tells (c.entries.invariant.moments (c.entry.ensures.file.call.run.tells tells)))
 
 pub returns-in-Err-make_ready-clause-moments : goal.returns-in-Err-make_ready-clause-moments
-returns-in-Err-make_ready-clause-moments g c = λ tells. inr (syncs_reads (g.B.Board.view c.args.board.now) (g.B.Board.view c.gates.board) (g.B.Board.view c.entry.new.board) (LeavesAsRead (g.B.Board.view c.args.board.now))
-    (g.met.B.Board.sound c.gates.board) (g.met.B.Board.sound c.entry.new.board) c.entry.ensures.file tells (c.gates.invariant.moments (c.entry.ensures.file.call.run.tells tells)))
+returns-in-Err-make_ready-clause-moments g c = λ tells. inr (syncs_reads (g.B.Board.view c.args.board.now) (g.B.Board.view c.entries.board) (g.B.Board.view c.entry.new.board) (LeavesAsRead (g.B.Board.view c.args.board.now))
+    (g.met.B.Board.sound c.entries.board) (g.met.B.Board.sound c.entry.new.board) c.entry.ensures.file tells (c.entries.invariant.moments (c.entry.ensures.file.call.run.tells tells)))
 
 pub returns-clause-moments : goal.returns-clause-moments
-returns-clause-moments g c = λ tells. inr (syncs_reads (g.B.Board.view c.args.board.now) (g.B.Board.view c.gates.board) (g.B.Board.view c.entry.new.board) (LeavesAsRead (g.B.Board.view c.args.board.now))
-    (g.met.B.Board.sound c.gates.board) (g.met.B.Board.sound c.entry.new.board) c.entry.ensures.file tells (c.gates.invariant.moments (c.entry.ensures.file.call.run.tells tells)))
+returns-clause-moments g c = λ tells. inr (syncs_reads (g.B.Board.view c.args.board.now) (g.B.Board.view c.entries.board) (g.B.Board.view c.entry.new.board) (LeavesAsRead (g.B.Board.view c.args.board.now))
+    (g.met.B.Board.sound c.entries.board) (g.met.B.Board.sound c.entry.new.board) c.entry.ensures.file tells (c.entries.invariant.moments (c.entry.ensures.file.call.run.tells tells)))
 
 pub returns-in-Err-entry-clause-opened : goal.returns-in-Err-entry-clause-opened
 returns-in-Err-entry-clause-opened g c = λ tells Z H lawful stands.
     let rules' = g.M.Machine.rules in
     let view' = g.M.Machine.view in
     let start = g.B.Board.view c.args.board.now in
-    let now = g.B.Board.view c.gates.board in
+    let now = g.B.Board.view c.entries.board in
     let new = g.B.Board.view c.entry.new.board in
     let reads = c.entry.ensures.file in
-    let r = c.gates.invariant.replayed in
+    let r = c.entries.invariant.replayed in
     let are = λ (Y : List ℕ) (G : List (Entry g.row.M-Item.Denot)) (e : Entry g.row.M-Item.Denot) (a : Allowed rules' Y G e). g.met.M.Machine.are_entries Y G e a in
-    let run = run_reads start now new c.gates.invariant.run reads in
-    let octets = λ (t : IsTrue new.tells). reads.octets t ∙ c.gates.invariant.octets (reads.call.run.tells t) in
+    let run = run_compose start now new c.entries.invariant.run reads.call.run in
+    let octets = λ (t : IsTrue new.tells). reads.octets t ∙ c.entries.invariant.octets (reads.call.run.tells t) in
     let tells_now = reads.call.run.tells tells in
-    let octets_now = c.gates.invariant.octets tells_now in
-    let before = stands_before rules' view' are now tells_now c.gates.machine c.gates.journal r Z H lawful (subst (Stands rules' Z H) (sym octets_now) stands) in
+    let octets_now = c.entries.invariant.octets tells_now in
+    let before = stands_before rules' view' are now tells_now c.entries.machine c.entries.journal r Z H lawful (subst (Stands rules' Z H) (sym octets_now) stands) in
     open_fails rules' view' Z H start new tells run octets stands c.fault_of-in-Err-entry.result (returns-in-Err-entry-clause-moments g c tells)
     (λ err.
     let is : c.fault_of-in-Err-entry.result ≡ NotFormatted = cc err in
@@ -72,15 +67,15 @@ returns-in-Err-entry-clause-corrupt g c = λ tells.
     let rules' = g.M.Machine.rules in
     let view' = g.M.Machine.view in
     let start = g.B.Board.view c.args.board.now in
-    let now = g.B.Board.view c.gates.board in
+    let now = g.B.Board.view c.entries.board in
     let new = g.B.Board.view c.entry.new.board in
     let reads = c.entry.ensures.file in
-    let r = c.gates.invariant.replayed in
+    let r = c.entries.invariant.replayed in
     let are = λ (Y : List ℕ) (G : List (Entry g.row.M-Item.Denot)) (e : Entry g.row.M-Item.Denot) (a : Allowed rules' Y G e). g.met.M.Machine.are_entries Y G e a in
     let tells_now = reads.call.run.tells tells in
-    let octets_now = c.gates.invariant.octets tells_now in
+    let octets_now = c.entries.invariant.octets tells_now in
     subst (λ (f : List ℕ). HasCorruptCause rules' f c.fault_of-in-Err-entry.result) octets_now
-    (journal_cause rules' view' are now tells_now c.gates.machine c.gates.journal r c.entry.new.out c.in-Err-entry.fault (c.in-Err-entry.ensures.finds tells)
+    (journal_cause rules' view' are now tells_now c.entries.machine c.entries.journal r c.entry.new.out c.in-Err-entry.fault (c.in-Err-entry.ensures.finds tells)
     c.fault_of-in-Err-entry.result (λ at is. (c.fault_of-in-Err-entry.ensures.corrupt at).1 is))
 
 pub returns-in_default-clause-opened : goal.returns-in_default-clause-opened
@@ -88,16 +83,16 @@ returns-in_default-clause-opened g c = λ tells Z H lawful stands.
     let rules' = g.M.Machine.rules in
     let view' = g.M.Machine.view in
     let start = g.B.Board.view c.args.board.now in
-    let now = g.B.Board.view c.gates.board in
+    let now = g.B.Board.view c.entries.board in
     let new = g.B.Board.view c.entry.new.board in
     let reads = c.entry.ensures.file in
-    let r = c.gates.invariant.replayed in
+    let r = c.entries.invariant.replayed in
     let are = λ (Y : List ℕ) (G : List (Entry g.row.M-Item.Denot)) (e : Entry g.row.M-Item.Denot) (a : Allowed rules' Y G e). g.met.M.Machine.are_entries Y G e a in
-    let run = run_reads start now new c.gates.invariant.run reads in
-    let octets = λ (t : IsTrue new.tells). reads.octets t ∙ c.gates.invariant.octets (reads.call.run.tells t) in
+    let run = run_compose start now new c.entries.invariant.run reads.call.run in
+    let octets = λ (t : IsTrue new.tells). reads.octets t ∙ c.entries.invariant.octets (reads.call.run.tells t) in
     let tells_now = reads.call.run.tells tells in
-    let octets_now = c.gates.invariant.octets tells_now in
-    let before = stands_before rules' view' are now tells_now c.gates.machine c.gates.journal r Z H lawful (subst (Stands rules' Z H) (sym octets_now) stands) in
+    let octets_now = c.entries.invariant.octets tells_now in
+    let before = stands_before rules' view' are now tells_now c.entries.machine c.entries.journal r Z H lawful (subst (Stands rules' Z H) (sym octets_now) stands) in
     let test : c.in-Ok-true.field-0 ≡ true = search rules in
     let decodes = subst (λ (l : List ℕ). Decodes rules' l c.decode_entry.result) c.as_slice.ensures c.decode_entry.ensures in
     let gives = subst (λ b. GivesEntry rules'.kind r.settings (map rules'.encode r.done) (map rules'.encode before.1) new c.entry.new.self c.entry.new.out b) test
@@ -111,18 +106,18 @@ returns-in_default-clause-corrupt g c = λ tells.
     let rules' = g.M.Machine.rules in
     let view' = g.M.Machine.view in
     let start = g.B.Board.view c.args.board.now in
-    let now = g.B.Board.view c.gates.board in
+    let now = g.B.Board.view c.entries.board in
     let new = g.B.Board.view c.entry.new.board in
     let reads = c.entry.ensures.file in
-    let r = c.gates.invariant.replayed in
+    let r = c.entries.invariant.replayed in
     let are = λ (Y : List ℕ) (G : List (Entry g.row.M-Item.Denot)) (e : Entry g.row.M-Item.Denot) (a : Allowed rules' Y G e). g.met.M.Machine.are_entries Y G e a in
     let tells_now = reads.call.run.tells tells in
-    let octets_now = c.gates.invariant.octets tells_now in
+    let octets_now = c.entries.invariant.octets tells_now in
     let test : c.in-Ok-true.field-0 ≡ true = search rules in
     let decodes = subst (λ (l : List ℕ). Decodes rules' l c.decode_entry.result) c.as_slice.ensures c.decode_entry.ensures in
-    let has = subst (λ b. Finds now.octets c.gates.journal.place c.entry.new.out (Ok b)) test (c.in-Ok-true.ensures.finds tells) in
+    let has = subst (λ b. Finds now.octets c.entries.journal.place c.entry.new.out (Ok b)) test (c.in-Ok-true.ensures.finds tells) in
     subst (λ (f : List ℕ). BreaksAt rules' c.place-gate.result f) octets_now
-    (breaks rules' view' are now tells_now c.gates.machine c.gates.journal r c.place-gate.result c.place-gate.ensures
+    (breaks rules' view' are now tells_now c.entries.machine c.entries.journal r c.place-gate.result c.place-gate.ensures
     (inr (c.entry.new.out, has, λ e is_e enc allowed. absurd (cc (decodes.found e is_e enc, c.in_default.is)))))
 
 pub returns-then-not-allows-clause-opened : goal.returns-then-not-allows-clause-opened
@@ -130,16 +125,16 @@ returns-then-not-allows-clause-opened g c = λ tells Z H lawful stands.
     let rules' = g.M.Machine.rules in
     let view' = g.M.Machine.view in
     let start = g.B.Board.view c.args.board.now in
-    let now = g.B.Board.view c.gates.board in
+    let now = g.B.Board.view c.entries.board in
     let new = g.B.Board.view c.entry.new.board in
     let reads = c.entry.ensures.file in
-    let r = c.gates.invariant.replayed in
+    let r = c.entries.invariant.replayed in
     let are = λ (Y : List ℕ) (G : List (Entry g.row.M-Item.Denot)) (e : Entry g.row.M-Item.Denot) (a : Allowed rules' Y G e). g.met.M.Machine.are_entries Y G e a in
-    let run = run_reads start now new c.gates.invariant.run reads in
-    let octets = λ (t : IsTrue new.tells). reads.octets t ∙ c.gates.invariant.octets (reads.call.run.tells t) in
+    let run = run_compose start now new c.entries.invariant.run reads.call.run in
+    let octets = λ (t : IsTrue new.tells). reads.octets t ∙ c.entries.invariant.octets (reads.call.run.tells t) in
     let tells_now = reads.call.run.tells tells in
-    let octets_now = c.gates.invariant.octets tells_now in
-    let before = stands_before rules' view' are now tells_now c.gates.machine c.gates.journal r Z H lawful (subst (Stands rules' Z H) (sym octets_now) stands) in
+    let octets_now = c.entries.invariant.octets tells_now in
+    let before = stands_before rules' view' are now tells_now c.entries.machine c.entries.journal r Z H lawful (subst (Stands rules' Z H) (sym octets_now) stands) in
     let test : c.in-Ok-true.field-0 ≡ true = search rules in
     let decodes = subst (λ (l : List ℕ). Decodes rules' l c.decode_entry.result) c.as_slice.ensures c.decode_entry.ensures in
     let gives = subst (λ b. GivesEntry rules'.kind r.settings (map rules'.encode r.done) (map rules'.encode before.1) new c.entry.new.self c.entry.new.out b) test
@@ -147,7 +142,7 @@ returns-then-not-allows-clause-opened g c = λ tells Z H lawful stands.
     let next = next_of rules' r.settings are r.done H before.1 (subst (λ z. Lawful rules' z H) before.0 lawful) before.2 new c.entry.new.self c.entry.new.out gives c.decode_entry.result decodes in
     let refused : (e : Entry g.row.M-Item.Denot) → c.decode_entry.result ≡ Some e → Allowed rules' r.settings r.done e → ⊥ = λ e is allowed.
     let same : c.in-Some.entry ≡ e = cc (is, c.in-Some.is) in
-    let ok = c.allows.ensures.1 (subst (λ x. (view' c.gates.machine).allowed x) (sym same) (((g.met.M.Machine.agrees c.gates.machine).allowed r.settings r.done e r.lawful r.shows).1 allowed)) in
+    let ok = c.allows.ensures.1 (subst (λ x. (view' c.entries.machine).allowed x) (sym same) (((g.met.M.Machine.agrees c.entries.machine).allowed r.settings r.done e r.lawful r.shows).1 allowed)) in
     absurd (cc (ok, c.if-not-allows.true)) in
     open_fails rules' view' Z H start new tells run octets stands (Corrupt c.place-gate.result) (returns-then-not-allows-clause-moments g c tells) (λ err. cc err)
     (λ at err. refused next.0 next.1 next.2)
@@ -157,79 +152,79 @@ returns-then-not-allows-clause-corrupt g c = λ tells.
     let rules' = g.M.Machine.rules in
     let view' = g.M.Machine.view in
     let start = g.B.Board.view c.args.board.now in
-    let now = g.B.Board.view c.gates.board in
+    let now = g.B.Board.view c.entries.board in
     let new = g.B.Board.view c.entry.new.board in
     let reads = c.entry.ensures.file in
-    let r = c.gates.invariant.replayed in
+    let r = c.entries.invariant.replayed in
     let are = λ (Y : List ℕ) (G : List (Entry g.row.M-Item.Denot)) (e : Entry g.row.M-Item.Denot) (a : Allowed rules' Y G e). g.met.M.Machine.are_entries Y G e a in
     let tells_now = reads.call.run.tells tells in
-    let octets_now = c.gates.invariant.octets tells_now in
+    let octets_now = c.entries.invariant.octets tells_now in
     let test : c.in-Ok-true.field-0 ≡ true = search rules in
     let decodes = subst (λ (l : List ℕ). Decodes rules' l c.decode_entry.result) c.as_slice.ensures c.decode_entry.ensures in
-    let has = subst (λ b. Finds now.octets c.gates.journal.place c.entry.new.out (Ok b)) test (c.in-Ok-true.ensures.finds tells) in
+    let has = subst (λ b. Finds now.octets c.entries.journal.place c.entry.new.out (Ok b)) test (c.in-Ok-true.ensures.finds tells) in
     let refused : (e : Entry g.row.M-Item.Denot) → c.decode_entry.result ≡ Some e → Allowed rules' r.settings r.done e → ⊥ = λ e is allowed.
     let same : c.in-Some.entry ≡ e = cc (is, c.in-Some.is) in
-    let ok = c.allows.ensures.1 (subst (λ x. (view' c.gates.machine).allowed x) (sym same) (((g.met.M.Machine.agrees c.gates.machine).allowed r.settings r.done e r.lawful r.shows).1 allowed)) in
+    let ok = c.allows.ensures.1 (subst (λ x. (view' c.entries.machine).allowed x) (sym same) (((g.met.M.Machine.agrees c.entries.machine).allowed r.settings r.done e r.lawful r.shows).1 allowed)) in
     absurd (cc (ok, c.if-not-allows.true)) in
     subst (λ (f : List ℕ). BreaksAt rules' c.place-gate.result f) octets_now
-    (breaks rules' view' are now tells_now c.gates.machine c.gates.journal r c.place-gate.result c.place-gate.ensures
+    (breaks rules' view' are now tells_now c.entries.machine c.entries.journal r c.place-gate.result c.place-gate.ensures
     (inr (c.entry.new.out, has, λ e is_e enc allowed. refused e (decodes.found e is_e enc) allowed)))
 
 pub returns-in-Err-make_ready-clause-opened : goal.returns-in-Err-make_ready-clause-opened
 returns-in-Err-make_ready-clause-opened g c = λ tells Z H lawful stands.
     let reads = c.entry.ensures.file in
     open_fails g.M.Machine.rules g.M.Machine.view Z H (g.B.Board.view c.args.board.now) (g.B.Board.view c.entry.new.board) tells
-    (run_reads (g.B.Board.view c.args.board.now) (g.B.Board.view c.gates.board) (g.B.Board.view c.entry.new.board) c.gates.invariant.run reads)
-    (λ t. reads.octets t ∙ c.gates.invariant.octets (reads.call.run.tells t)) stands
+    (run_compose (g.B.Board.view c.args.board.now) (g.B.Board.view c.entries.board) (g.B.Board.view c.entry.new.board) c.entries.invariant.run reads.call.run)
+    (λ t. reads.octets t ∙ c.entries.invariant.octets (reads.call.run.tells t)) stands
     c.in-Err-make_ready.fault (returns-in-Err-make_ready-clause-moments g c tells) (λ err. c.in-Err-make_ready.ensures.other.1 (cc err)) (λ at err. c.in-Err-make_ready.ensures.other.2 at (cc err))
 
-pub gates-preserved-in-Ok-make_ready : goal.gates-preserved-in-Ok-make_ready
-gates-preserved-in-Ok-make_ready g c = record {
-  run = run_reads (g.B.Board.view c.args.board.now) (g.B.Board.view c.gates.board) (g.B.Board.view c.entry.new.board) c.gates.invariant.run c.entry.ensures.file;
-  octets = λ t. c.entry.ensures.file.octets t ∙ c.gates.invariant.octets (c.entry.ensures.file.call.run.tells t);
-  moments = λ t. syncs_reads (g.B.Board.view c.args.board.now) (g.B.Board.view c.gates.board) (g.B.Board.view c.entry.new.board) (LeavesAsRead (g.B.Board.view c.args.board.now))
-      (g.met.B.Board.sound c.gates.board) (g.met.B.Board.sound c.entry.new.board) c.entry.ensures.file t (c.gates.invariant.moments (c.entry.ensures.file.call.run.tells t));
+pub entries-preserved-in-Ok-make_ready : goal.entries-preserved-in-Ok-make_ready
+entries-preserved-in-Ok-make_ready g c = record {
+  run = run_compose (g.B.Board.view c.args.board.now) (g.B.Board.view c.entries.board) (g.B.Board.view c.entry.new.board) c.entries.invariant.run c.entry.ensures.file.call.run;
+  octets = λ t. c.entry.ensures.file.octets t ∙ c.entries.invariant.octets (c.entry.ensures.file.call.run.tells t);
+  moments = λ t. syncs_reads (g.B.Board.view c.args.board.now) (g.B.Board.view c.entries.board) (g.B.Board.view c.entry.new.board) (LeavesAsRead (g.B.Board.view c.args.board.now))
+      (g.met.B.Board.sound c.entries.board) (g.met.B.Board.sound c.entry.new.board) c.entry.ensures.file t (c.entries.invariant.moments (c.entry.ensures.file.call.run.tells t));
   fits = c.entry.ensures.fits;
   replayed =
       let rules' = g.M.Machine.rules in
       let view' = g.M.Machine.view in
       let start = g.B.Board.view c.args.board.now in
-      let now = g.B.Board.view c.gates.board in
+      let now = g.B.Board.view c.entries.board in
       let new = g.B.Board.view c.entry.new.board in
       let reads = c.entry.ensures.file in
-      let r = c.gates.invariant.replayed in
+      let r = c.entries.invariant.replayed in
       let are = λ (Y : List ℕ) (G : List (Entry g.row.M-Item.Denot)) (e : Entry g.row.M-Item.Denot) (a : Allowed rules' Y G e). g.met.M.Machine.are_entries Y G e a in
       let test : c.in-Ok-true.field-0 ≡ true = search rules in
       let decodes = subst (λ (l : List ℕ). Decodes rules' l c.decode_entry.result) c.as_slice.ensures c.decode_entry.ensures in
       let some : Decodes rules' c.entry.new.out (Some c.in-Some.entry) = subst (λ d. Decodes rules' c.entry.new.out d) c.in-Some.is decodes in
-      let allowed = ((g.met.M.Machine.agrees c.gates.machine).allowed r.settings r.done c.in-Some.entry r.lawful r.shows).0 (c.allows.ensures.0 (search rules)) in
-      replayed_on rules' view' now new c.gates.machine c.gates.journal r c.make_ready.new.machine c.apply.new.self c.entry.new.self c.in-Some.entry c.entry.new.out some allowed
+      let allowed = ((g.met.M.Machine.agrees c.entries.machine).allowed r.settings r.done c.in-Some.entry r.lawful r.shows).0 (c.allows.ensures.0 (search rules)) in
+      replayed_on rules' view' now new c.entries.machine c.entries.journal r c.make_ready.new.machine c.apply.new.self c.entry.new.self c.in-Some.entry c.entry.new.out some allowed
       (λ s. c.make_ready.ensures.same.shows r.settings r.done s) c.apply.ensures.shows
       (λ tells. subst (λ b. ReadsOn rules'.kind r.settings (map rules'.encode r.done) new c.entry.new.self c.entry.new.out b) test
       (c.in-Ok-true.ensures.reads tells rules'.kind r.settings (map rules'.encode r.done) (r.read (reads.call.run.tells tells))));
 }
 
-pub gates-preserved : goal.gates-preserved
-gates-preserved g c = record {
-  run = run_reads (g.B.Board.view c.args.board.now) (g.B.Board.view c.gates.board) (g.B.Board.view c.entry.new.board) c.gates.invariant.run c.entry.ensures.file;
-  octets = λ t. c.entry.ensures.file.octets t ∙ c.gates.invariant.octets (c.entry.ensures.file.call.run.tells t);
-  moments = λ t. syncs_reads (g.B.Board.view c.args.board.now) (g.B.Board.view c.gates.board) (g.B.Board.view c.entry.new.board) (LeavesAsRead (g.B.Board.view c.args.board.now))
-      (g.met.B.Board.sound c.gates.board) (g.met.B.Board.sound c.entry.new.board) c.entry.ensures.file t (c.gates.invariant.moments (c.entry.ensures.file.call.run.tells t));
+pub entries-preserved : goal.entries-preserved
+entries-preserved g c = record {
+  run = run_compose (g.B.Board.view c.args.board.now) (g.B.Board.view c.entries.board) (g.B.Board.view c.entry.new.board) c.entries.invariant.run c.entry.ensures.file.call.run;
+  octets = λ t. c.entry.ensures.file.octets t ∙ c.entries.invariant.octets (c.entry.ensures.file.call.run.tells t);
+  moments = λ t. syncs_reads (g.B.Board.view c.args.board.now) (g.B.Board.view c.entries.board) (g.B.Board.view c.entry.new.board) (LeavesAsRead (g.B.Board.view c.args.board.now))
+      (g.met.B.Board.sound c.entries.board) (g.met.B.Board.sound c.entry.new.board) c.entry.ensures.file t (c.entries.invariant.moments (c.entry.ensures.file.call.run.tells t));
   fits = c.entry.ensures.fits;
   replayed =
       let rules' = g.M.Machine.rules in
       let view' = g.M.Machine.view in
       let start = g.B.Board.view c.args.board.now in
-      let now = g.B.Board.view c.gates.board in
+      let now = g.B.Board.view c.entries.board in
       let new = g.B.Board.view c.entry.new.board in
       let reads = c.entry.ensures.file in
-      let r = c.gates.invariant.replayed in
+      let r = c.entries.invariant.replayed in
       let are = λ (Y : List ℕ) (G : List (Entry g.row.M-Item.Denot)) (e : Entry g.row.M-Item.Denot) (a : Allowed rules' Y G e). g.met.M.Machine.are_entries Y G e a in
       let test : c.in-Ok-true.field-0 ≡ true = search rules in
       let decodes = subst (λ (l : List ℕ). Decodes rules' l c.decode_entry.result) c.as_slice.ensures c.decode_entry.ensures in
       let some : Decodes rules' c.entry.new.out (Some c.in-Some.entry) = subst (λ d. Decodes rules' c.entry.new.out d) c.in-Some.is decodes in
-      let allowed = ((g.met.M.Machine.agrees c.gates.machine).allowed r.settings r.done c.in-Some.entry r.lawful r.shows).0 (c.allows.ensures.0 (search rules)) in
-      replayed_on rules' view' now new c.gates.machine c.gates.journal r c.make_ready.new.machine c.apply.new.self c.entry.new.self c.in-Some.entry c.entry.new.out some allowed
+      let allowed = ((g.met.M.Machine.agrees c.entries.machine).allowed r.settings r.done c.in-Some.entry r.lawful r.shows).0 (c.allows.ensures.0 (search rules)) in
+      replayed_on rules' view' now new c.entries.machine c.entries.journal r c.make_ready.new.machine c.apply.new.self c.entry.new.self c.in-Some.entry c.entry.new.out some allowed
       (λ s. c.make_ready.ensures.same.shows r.settings r.done s) c.apply.ensures.shows
       (λ tells. subst (λ b. ReadsOn rules'.kind r.settings (map rules'.encode r.done) new c.entry.new.self c.entry.new.out b) test
       (c.in-Ok-true.ensures.reads tells rules'.kind r.settings (map rules'.encode r.done) (r.read (reads.call.run.tells tells))));
@@ -240,38 +235,38 @@ returns-clause-opened g c = λ tells Z H lawful stands.
     let rules' = g.M.Machine.rules in
     let view' = g.M.Machine.view in
     let start = g.B.Board.view c.args.board.now in
-    let now = g.B.Board.view c.gates.board in
+    let now = g.B.Board.view c.entries.board in
     let new = g.B.Board.view c.entry.new.board in
     let reads = c.entry.ensures.file in
-    let r = c.gates.invariant.replayed in
+    let r = c.entries.invariant.replayed in
     let are = λ (Y : List ℕ) (G : List (Entry g.row.M-Item.Denot)) (e : Entry g.row.M-Item.Denot) (a : Allowed rules' Y G e). g.met.M.Machine.are_entries Y G e a in
-    let run = run_reads start now new c.gates.invariant.run reads in
-    let octets = λ (t : IsTrue new.tells). reads.octets t ∙ c.gates.invariant.octets (reads.call.run.tells t) in
+    let run = run_compose start now new c.entries.invariant.run reads.call.run in
+    let octets = λ (t : IsTrue new.tells). reads.octets t ∙ c.entries.invariant.octets (reads.call.run.tells t) in
     let tells_now = reads.call.run.tells tells in
-    let octets_now = c.gates.invariant.octets tells_now in
-    let before = stands_before rules' view' are now tells_now c.gates.machine c.gates.journal r Z H lawful (subst (Stands rules' Z H) (sym octets_now) stands) in
+    let octets_now = c.entries.invariant.octets tells_now in
+    let before = stands_before rules' view' are now tells_now c.entries.machine c.entries.journal r Z H lawful (subst (Stands rules' Z H) (sym octets_now) stands) in
     let test : c.in-Ok-false.field-0 ≡ false = search rules in
     let gives = subst (λ b. GivesEntry rules'.kind r.settings (map rules'.encode r.done) (map rules'.encode before.1) new c.entry.new.self c.entry.new.out b) test
     (c.in-Ok-false.ensures.entry tells rules'.kind r.settings (map rules'.encode r.done) (map rules'.encode before.1) before.3) in
-    let engine : Engine g.row.M.Denot g.row.M-Item.Denot = record { machine = c.gates.machine; journal = c.entry.new.self; live = true } in
+    let engine : Engine g.row.M.Denot g.row.M-Item.Denot = record { machine = c.entries.machine; journal = c.entry.new.self; live = true } in
     open_ends rules' view' Z H start new tells run octets stands engine
-    (syncs_reads start now new (LeavesAsRead start) (g.met.B.Board.sound c.gates.board) (g.met.B.Board.sound c.entry.new.board) reads tells (c.gates.invariant.moments tells_now))
-    (holds_at_end rules' view' now new c.gates.machine c.gates.journal r Z H before.1 before.0 before.2 c.entry.new.out engine refl gives)
+    (syncs_reads start now new (LeavesAsRead start) (g.met.B.Board.sound c.entries.board) (g.met.B.Board.sound c.entry.new.board) reads tells (c.entries.invariant.moments tells_now))
+    (holds_at_end rules' view' now new c.entries.machine c.entries.journal r Z H before.1 before.0 before.2 c.entry.new.out engine refl gives)
 
 pub returns-clause-stands : goal.returns-clause-stands
 returns-clause-stands g c = λ tells.
     let rules' = g.M.Machine.rules in
     let view' = g.M.Machine.view in
     let start = g.B.Board.view c.args.board.now in
-    let now = g.B.Board.view c.gates.board in
+    let now = g.B.Board.view c.entries.board in
     let new = g.B.Board.view c.entry.new.board in
     let reads = c.entry.ensures.file in
-    let r = c.gates.invariant.replayed in
+    let r = c.entries.invariant.replayed in
     let are = λ (Y : List ℕ) (G : List (Entry g.row.M-Item.Denot)) (e : Entry g.row.M-Item.Denot) (a : Allowed rules' Y G e). g.met.M.Machine.are_entries Y G e a in
-    let run = run_reads start now new c.gates.invariant.run reads in
-    let octets = λ (t : IsTrue new.tells). reads.octets t ∙ c.gates.invariant.octets (reads.call.run.tells t) in
+    let run = run_compose start now new c.entries.invariant.run reads.call.run in
+    let octets = λ (t : IsTrue new.tells). reads.octets t ∙ c.entries.invariant.octets (reads.call.run.tells t) in
     let tells_now = reads.call.run.tells tells in
-    let octets_now = c.gates.invariant.octets tells_now in
+    let octets_now = c.entries.invariant.octets tells_now in
     let test : c.in-Ok-false.field-0 ≡ false = search rules in
     let at_end = subst (λ b. ReadsOn rules'.kind r.settings (map rules'.encode r.done) new c.entry.new.self c.entry.new.out b) test
     (c.in-Ok-false.ensures.reads tells rules'.kind r.settings (map rules'.encode r.done) (r.read tells_now)) in

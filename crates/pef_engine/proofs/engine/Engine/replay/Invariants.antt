@@ -4,8 +4,8 @@ use Rattle.pef_journal.specs.Journal.{LeavesAsRead, KnowsLength}
 use Rattle.pef_engine.specs.Engine.{Replayed}
 use Rattle.pef_engine.proofs.engine.Engine.replay.Given as goal
 
-abbrev pub invariant-gates : goal.invariant-gates
-invariant-gates g l = record {
+abbrev pub invariant-entries : goal.invariant-entries
+invariant-entries g l = record {
   run : IsFileRun (g.B.Board.view l.fn.board) (g.B.Board.view l.board);
   octets : IsTrue (g.B.Board.view l.board).tells → (g.B.Board.view l.board).octets ≡ (g.B.Board.view l.fn.board).octets;
   moments : IsTrue (g.B.Board.view l.board).tells → SyncsFirst (g.B.Board.view l.fn.board) (g.B.Board.view l.board) (LeavesAsRead (g.B.Board.view l.fn.board));
@@ -13,5 +13,5 @@ invariant-gates g l = record {
   replayed : Replayed g.M.Machine.rules g.M.Machine.view (g.B.Board.view l.board) l.machine l.journal;
 }
 
-abbrev pub decreases-gates : goal.decreases-gates
-decreases-gates g l = 2 ^ 64 - l.journal.place
+abbrev pub decreases-entries : goal.decreases-entries
+decreases-entries g l = 2 ^ 64 - l.journal.place

@@ -1,10 +1,8 @@
-use Rattle.std.proofs.Common.{◌≡◌, ◌⊎◌, inl, inr, ℕ, List, [], ◌∷◌, ◌++◌, map, Option, Some, None, IsTrue, is_some, refl, sym, ◌∙◌, ap, subst}
+use Rattle.std.proofs.Common.{ℕ, List, [], ◌∷◌, ◌++◌, map, is_some, sym, ◌∙◌, ap, subst}
 use Rattle.std.proofs.lemmas.List.{map-append}
 use Rattle.board_core.specs.Board.{LeavesOnly, SameSteps}
 use Rattle.pef_engine.specs.declared.entry.Entry.TheVariants.{Outcome}
 use Rattle.pef_journal.specs.Journal.{IsAtEnd, StandsForEither}
-use Rattle.pef_engine.specs.Lines.{LeavesPrefix}
-use Rattle.pef_engine.specs.Engine.{Holds}
 use Rattle.pef_engine.proofs.Moments.{settle_moments}
 use Rattle.pef_engine.proofs.Stored.{at_end_along, images_stand, lawful-append, nothing_moments}
 use Rattle.pef_engine.proofs.engine.Engine.settle.Goals as goal
