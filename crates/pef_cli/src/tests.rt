@@ -290,6 +290,9 @@ fn run_leaves_and_says(rt: HostRuntime) {
     let begun = file_with(alloc, &[&OPENED]).expect(&rt, "memory");
     let pending = file_with(alloc, &[&OPENED, &EVENT]).expect(&rt, "memory");
     let whole = file_with(alloc, &[&OPENED, &EVENT, &DONE, &CLOSED]).expect(&rt, "memory");
+    let mut closed = MADE;
+    closed[59] = 0x37;
+    let torn = file_with(alloc, &[&[0xa5, 0]]).expect(&rt, "memory");
     let run = Case {
         what: "one event",
         file: &MADE,
@@ -352,6 +355,19 @@ fn run_leaves_and_says(rt: HostRuntime) {
             status: 3,
             written: "unformatted\n",
             after: &[0xa5],
+            ..stopped
+        },
+        Case {
+            what: "a gate that is closed by another octet",
+            file: &closed,
+            ..run
+        },
+        Case {
+            what: "an entry of no octets behind an open gate",
+            file: torn.as_slice(),
+            status: 3,
+            written: "unformatted\n",
+            after: torn.as_slice(),
             ..stopped
         },
         Case {

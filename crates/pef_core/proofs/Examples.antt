@@ -2,18 +2,19 @@
 use Rattle.std.proofs.Common.{◌≡◌, ℕ, true, false, List, [], ◌∷◌, ◌++◌, length, Some, None, refl}
 use Rattle.board_core.specs.declared.step.Step.TheVariants.{Act}
 use Rattle.board_core.specs.declared.step.Act.TheVariants.{DiagInt}
-use Rattle.board_core.specs.declared.step.Told.TheVariants.{Failed}
+use Rattle.board_core.specs.declared.step.Told.TheVariants.{Done, Failed}
 use Rattle.event_record.specs.declared.fault.RecordFault.TheVariants.{ReservedId}
 use Rattle.event_record.specs.declared.fault.LogFault.TheVariants.{Duplicate}
 use Rattle.filter_table.specs.declared.data_test.DataTest.{DataTest}
 use Rattle.pef_engine.specs.declared.entry.Entry.{Entry}
 use Rattle.pef_engine.specs.declared.entry.Entry.TheVariants.{Item as Taken, Outcome}
+use Rattle.pef_engine.specs.Lines.{line}
 use Rattle.pef_core.specs.declared.item.Item.{Item}
 use Rattle.pef_core.specs.declared.item.Item.TheVariants.{Event, Open, Close}
 use Rattle.pef_core.specs.declared.note.Note.TheVariants.{Added, Refused, NotAdded, Nothing}
 use Rattle.pef_core.specs.Asking.{fits, is_match, asks_by, asks}
 use Rattle.pef_core.specs.History.{log_of, note_after, script_of}
-use Rattle.pef_core.specs.Histories.{pending, encode}
+use Rattle.pef_core.specs.Histories.{pending, encode, controller_rules}
 
 -- an enabled filter with these actions, on sensor type 04h and offset 2
 abbrev filter_with : ℕ → List ℕ
@@ -104,3 +105,12 @@ not_added = (refl, refl, refl)
 
 octets : (encode (Taken (Event fan)) ≡ 0x01 ∷ fan) × (encode (Taken (Open 0x01 0x0203)) ≡ 0x05 ∷ 0x01 ∷ 0 ∷ 0 ∷ 0 ∷ 0x03 ∷ 0x02 ∷ 0 ∷ 0 ∷ []) × (encode (Outcome Failed) ≡ 0x10 ∷ 0x01 ∷ [])
 octets = (refl, refl, refl)
+
+-- The run without a crash: one event and what its step was told, an event that asks for nothing, and an event whose step
+-- has been told nothing yet, behind which no item comes.
+runs_without_a_crash : (line controller_rules settings [] (Event fan ∷ []) (Done ∷ []) ≡ Taken (Event fan) ∷ Outcome Done ∷ [])
+    × (line controller_rules settings [] (Event fan ∷ []) (Failed ∷ []) ≡ Taken (Event fan) ∷ Outcome Failed ∷ [])
+    × (line controller_rules settings [] (Event (fan_with 0x01 0x02 0x53) ∷ []) [] ≡ Taken (Event (fan_with 0x01 0x02 0x53)) ∷ [])
+    × (line controller_rules settings [] (Event fan ∷ Close ∷ []) [] ≡ Taken (Event fan) ∷ [])
+unfolding fits is_match asks_by
+runs_without_a_crash = (refl, refl, refl, refl)
