@@ -4,3 +4,4 @@ pub mod Lines
 pub mod Lives
 pub mod Engine
 pub mod Scripts
+pub mod Tally

@@ -17,3 +17,6 @@ pub use laws::lives_law;
 pub use machine::Machine;
 pub use script::Script;
 pub use scripted::{ReportLine, Scripted};
+
+#[cfg(test)]
+mod tests;
