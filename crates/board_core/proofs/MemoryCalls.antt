@@ -3,7 +3,7 @@ use Rattle.std.proofs.Common.{◌≡◌, ◌⊎◌, inl, inr, ⊎_elim, ℕ, ◌
 use Rattle.std.specs.Prelude.{⊤}
 use Rattle.std.proofs.lemmas.Bool.{cases_lt}
 use Rattle.std.proofs.lemmas.List.{take_all, take-append-le, length_push, map-append}
-use Rattle.board_core.specs.Board.{BoardView, Left, LeftNow, LeftInFlight, IsFileCall, Reads, Issues, steps_of, tolds_of}
+use Rattle.board_core.specs.Board.{BoardView, CrashState, LeftNow, LeftInFlight, IsFileCall, Reads, Issues, steps_of, tolds_of}
 use Rattle.board_core.specs.declared.step.Sent.{Sent}
 use Rattle.board_core.specs.declared.call.Effect.{Effect}
 use Rattle.board_core.specs.declared.call.Effect.TheVariants.{Wrote, Spoiled, Synced, Issued}
@@ -34,10 +34,10 @@ module _ (past : Past) (traced : IsTraced past) (tells : Bool) (octets : List �
     abbrev passed : Past
     passed = record { start = past.start; earlier = past.earlier; calls = past.calls; sent = past.sent; made = made }
 
-    still : (since : ℕ) (left : Left) → LeftSince past since left → LeftSince passed since left
+    still : (since : ℕ) (left : CrashState) → LeftSince past since left → LeftSince passed since left
     still since left was = record { moment = was.moment; later = was.later; had = omega (arith, was.had, counted); leaves = record { image = was.leaves.image; issued = was.leaves.issued; told = was.leaves.told } }
 
-    passed_by : (since : ℕ) (left : Left) → LeftSince passed since left → LeftSince past since left ⊎ LeftNow (view_of tells octets d' i' passed) left
+    passed_by : (since : ℕ) (left : CrashState) → LeftSince passed since left → LeftSince past since left ⊎ LeftNow (view_of tells octets d' i' passed) left
     passed_by since left was = ⊎_elim later earlier (cases_lt (2 * past.made) was.moment)
       where
         leaves : LeavesAt past was.moment left
@@ -78,7 +78,7 @@ module _ (past : Past) (traced : IsTraced past) (tells : Bool) (octets : List �
     all_told effect = all_sent past traced (2 * past.made) (omega arith)
 
     -- a crash in the middle of the call leaves what one after it may, but for a sync, which isn't done yet
-    middle : (effect : Effect) → IsFileEffect effect → (since : ℕ) (left : Left) → since ≤ 2 * past.made → LeavesAt (with_more past effect past.sent) (2 * past.made + 1) left → LeftSince past since left ⊎ LeftNow (changed effect) left
+    middle : (effect : Effect) → IsFileEffect effect → (since : ℕ) (left : CrashState) → since ≤ 2 * past.made → LeavesAt (with_more past effect past.sent) (2 * past.made + 1) left → LeftSince past since left ⊎ LeftNow (changed effect) left
     middle (Wrote place written) is since left le leaves =
         let here = state_middle past traced (Wrote place written) past.sent (λ n short. refl) refl in
         inr (record {
@@ -129,7 +129,7 @@ module _ (past : Past) (traced : IsTraced past) (tells : Bool) (octets : List �
     front : (n : ℕ) → n ≤ length past.sent → take n sent_more ≡ take n past.sent
     front n short = take-append-le n past.sent (sent ∷ []) short
 
-    in_flight : (left : Left) → LeavesAt (with_more past Issued sent_more) (2 * past.made + 1) left → LeftInFlight view sent.step left
+    in_flight : (left : CrashState) → LeavesAt (with_more past Issued sent_more) (2 * past.made + 1) left → LeftInFlight view sent.step left
     in_flight left leaves =
         let here = state_middle past traced Issued sent_more front refl in
         record {

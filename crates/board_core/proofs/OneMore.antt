@@ -6,7 +6,7 @@ use Rattle.std.proofs.lemmas.List.Elements.{All-weaker, All-push}
 use Rattle.board_core.specs.declared.step.Sent.{Sent}
 use Rattle.board_core.specs.declared.call.Call.{Call}
 use Rattle.board_core.specs.declared.call.Effect.{Effect}
-use Rattle.board_core.specs.Board.{Left, steps_of, tolds_of}
+use Rattle.board_core.specs.Board.{CrashState, steps_of, tolds_of}
 use Rattle.board_core.specs.Moments.{Past, State, state_of, state_at, finished_at, state_after, fresh_state, after, effective_from, is_effective, is_finished, LeavesAt, LeftSince}
 use Rattle.board_core.proofs.FirstCalls.{take_while_push_no, issued_while}
 use Rattle.board_core.proofs.Pushed.{state-push}
@@ -77,21 +77,21 @@ module _ (past : Past) (traced : IsTraced past) (effect : Effect) (sent : List S
   pub answered_middle : take (finished_at more (2 * past.made + 1)).issued sent ≡ past.sent
   answered_middle = answered_before (2 * past.made + 1) (omega arith) ∙ ap (λ (s : State). take s.issued past.sent) (finished_now past traced (2 * past.made + 1) (omega arith)) ∙ all_sent past traced (2 * past.made + 1) (omega arith)
 
-  leaves_before : (moment : ℕ) (left : Left) → moment ≤ 2 * past.made → LeavesAt more moment left → LeavesAt past moment left
+  leaves_before : (moment : ℕ) (left : CrashState) → moment ≤ 2 * past.made → LeavesAt more moment left → LeavesAt past moment left
   leaves_before moment left before leaves = record {
     image = subst (λ (s : State). s.images left.image) (state_before moment before) leaves.image;
     issued = leaves.issued ∙ ap steps_of (sent_before moment before);
     told = leaves.told ∙ ap tolds_of (answered_before moment (omega (arith, before)));
   }
 
-  leaves_still : (moment : ℕ) (left : Left) → moment ≤ 2 * past.made → LeavesAt past moment left → LeavesAt more moment left
+  leaves_still : (moment : ℕ) (left : CrashState) → moment ≤ 2 * past.made → LeavesAt past moment left → LeavesAt more moment left
   leaves_still moment left before leaves = record {
     image = subst (λ (s : State). s.images left.image) (sym (state_before moment before)) leaves.image;
     issued = leaves.issued ∙ sym (ap steps_of (sent_before moment before));
     told = leaves.told ∙ sym (ap tolds_of (answered_before moment (omega (arith, before))));
   }
 
-  pub keeps : (since : ℕ) (left : Left) → LeftSince past since left → LeftSince more since left
+  pub keeps : (since : ℕ) (left : CrashState) → LeftSince past since left → LeftSince more since left
   keeps since left was = record {
     moment = was.moment;
     later = was.later;
@@ -100,7 +100,7 @@ module _ (past : Past) (traced : IsTraced past) (effect : Effect) (sent : List S
   }
 
   -- what a crash may leave since then is what it might have left before, or falls into the call, or behind it
-  pub since_more : (since : ℕ) (left : Left) → LeftSince more since left → LeftSince past since left ⊎ (LeavesAt more (2 * past.made + 1) left ⊎ LeavesAt more (2 * past.made + 2) left)
+  pub since_more : (since : ℕ) (left : CrashState) → LeftSince more since left → LeftSince past since left ⊎ (LeavesAt more (2 * past.made + 1) left ⊎ LeavesAt more (2 * past.made + 2) left)
   since_more since left was = ⊎_elim later earlier (cases_lt (2 * past.made) was.moment)
     where
       earlier : was.moment ≤ 2 * past.made → LeftSince past since left ⊎ (LeavesAt more (2 * past.made + 1) left ⊎ LeavesAt more (2 * past.made + 2) left)

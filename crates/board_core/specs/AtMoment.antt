@@ -8,7 +8,7 @@ use Rattle.std.proofs.lemmas.List.Elements.{All-weaker, All-head, All-tail}
 use Rattle.board_core.specs.declared.call.Call.{Call}
 use Rattle.board_core.specs.declared.call.Effect.{Effect}
 use Rattle.board_core.specs.declared.call.Effect.TheVariants.{Wrote, Spoiled, Synced, Issued}
-use Rattle.board_core.specs.Board.{Left, LeftNow, steps_of, tolds_of}
+use Rattle.board_core.specs.Board.{CrashState, LeftNow, steps_of, tolds_of}
 use Rattle.board_core.specs.Moments.{Past, State, state_of, state_at, finished_at, state_after, effective_from, is_effective, is_finished, LeavesAt}
 use Rattle.board_core.specs.MemoryBoard.{view_of}
 
@@ -62,14 +62,14 @@ module _ (past : Past) (traced : IsTraced past) where
     answered_now : take (finished_at past moment).issued past.sent ≡ past.sent
     answered_now = ap (λ (s : State). take s.issued past.sent) finished_now ∙ all_sent
 
-    pub now_from_leaves : (tells : Bool) (octets : List ℕ) (d i : ℕ) (left : Left) → LeavesAt past moment left → LeftNow (view_of tells octets d i past) left
+    pub now_from_leaves : (tells : Bool) (octets : List ℕ) (d i : ℕ) (left : CrashState) → LeavesAt past moment left → LeftNow (view_of tells octets d i past) left
     now_from_leaves tells octets d i left leaves = record {
       image = subst (λ (s : State). s.images left.image) state_now leaves.image;
       issued = leaves.issued ∙ ap steps_of sent_now;
       told = leaves.told ∙ ap tolds_of answered_now;
     }
 
-    pub leaves_now : (tells : Bool) (octets : List ℕ) (d i : ℕ) (left : Left) → LeftNow (view_of tells octets d i past) left → LeavesAt past moment left
+    pub leaves_now : (tells : Bool) (octets : List ℕ) (d i : ℕ) (left : CrashState) → LeftNow (view_of tells octets d i past) left → LeavesAt past moment left
     leaves_now tells octets d i left now = record {
       image = subst (λ (s : State). s.images left.image) (sym state_now) now.image;
       issued = now.issued ∙ sym (ap steps_of sent_now);

@@ -1,6 +1,6 @@
 -- What a crash makes of a board in memory.
 use Rattle.std.specs.Prelude.{◌≡◌, ℕ, ◌≤◌, List, [], true, Option, Some, None}
-use Rattle.board_core.specs.Board.{Only, Left, steps_of, tolds_of}
+use Rattle.board_core.specs.Board.{Only, CrashState, steps_of, tolds_of}
 use Rattle.board_core.specs.declared.step.Sent.{Sent}
 use Rattle.board_core.specs.declared.memory_board.MemBoard.{MemBoard}
 use Rattle.board_core.specs.Moments.{Past, state_at, sent_at, answered_at, LeavesAt}
@@ -24,7 +24,7 @@ pub record IsMade (content : List ℕ) (steps : List Sent) (failing_disk failing
   pub issue_faults : (memory_view board).issue_faults ≡ 0
 
 -- what a crash at this moment leaves where the file that it leaves is this image
-abbrev pub left_at : Past → ℕ → List ℕ → Left
+abbrev pub left_at : Past → ℕ → List ℕ → CrashState
 left_at past moment image = record { image = image; issued = steps_of (sent_at past moment); told = tolds_of (answered_at past moment) }
 
 -- A crash of this board at this moment leaves that board.

@@ -6,7 +6,7 @@ use Rattle.board_core.specs.declared.call.Call.{Call}
 use Rattle.board_core.specs.declared.call.Effect.{Effect}
 use Rattle.board_core.specs.declared.call.Effect.TheVariants.{Wrote, Spoiled, Synced, Issued}
 use Rattle.board_core.specs.File.{put_at}
-use Rattle.board_core.specs.Board.{Left, Torn, steps_of, tolds_of}
+use Rattle.board_core.specs.Board.{CrashState, Torn, steps_of, tolds_of}
 
 -- a written range of the file
 pub record Range : Type 0 where
@@ -113,7 +113,7 @@ abbrev pub answered_at : Past → ℕ → List Sent
 answered_at past moment = take (finished_at past moment).issued past.sent
 
 -- what a crash at this moment may leave
-pub record LeavesAt (past : Past) (moment : ℕ) (left : Left) : Type 0 where
+pub record LeavesAt (past : Past) (moment : ℕ) (left : CrashState) : Type 0 where
   pub image : (state_at past moment).images left.image
   pub issued : left.issued ≡ steps_of (sent_at past moment)
   pub told : left.told ≡ tolds_of (answered_at past moment)
@@ -123,7 +123,7 @@ abbrev pub HasMoment : Past → ℕ → Type 0
 HasMoment past moment = moment ≤ 2 * past.made
 
 -- what a crash at some moment from this one on may have left
-pub record LeftSince (past : Past) (since : ℕ) (left : Left) : Type 0 where
+pub record LeftSince (past : Past) (since : ℕ) (left : CrashState) : Type 0 where
   pub moment : ℕ
   pub later : since ≤ moment
   pub had : HasMoment past moment

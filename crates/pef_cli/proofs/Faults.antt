@@ -3,7 +3,7 @@ use Rattle.std.proofs.Common.{◌≡◌, ◌≢◌, ◌⊎◌, inl, inr, [], ◌
 use Rattle.pef_cli.specs.declared.init_fault.InitFault.{InitFault}
 use Rattle.pef_cli.specs.declared.init_fault.InitFault.TheVariants.{Disk, Formatted, Input, Settings, Memory}
 use Rattle.pef_cli.specs.Init.{status_of}
-use Rattle.pef_cli.specs.Output.{IsOneOf}
+use Rattle.script_run.specs.Status.{IsOneOf}
 
 pub not_zero : (fault : InitFault) → status_of fault ≢ 0
 not_zero Settings e = omega (arith, e)

@@ -1,12 +1,12 @@
 -- What a crash in a call of `init` leaves.
 use Rattle.std.proofs.Common.{◌≡◌, inl, inr, ⊎_elim, ℕ, List, Option, Some, None, false, is_some, arith, ap, ◌∙◌, subst, true≢false}
-use Rattle.board_core.specs.Board.{BoardView, Left, LeavesOnly, SyncsFirst, SameSteps, steps_of, tolds_of}
+use Rattle.board_core.specs.Board.{SyncsThen, BoardView, CrashState, LeavesOnly, SyncsFirst, SameSteps, steps_of, tolds_of}
 use Rattle.pef_journal.specs.Image.{IsFormatted, IsEmptyOrUnformatted, KindIs}
 use Rattle.pef_journal.specs.Journal.{LeavesAsRead}
-use Rattle.pef_cli.specs.Init.{controller, Gives, SyncsThen, LeavesMade, KeepsMoments}
+use Rattle.pef_cli.specs.Init.{controller, Gives, LeavesMade, KeepsMoments}
 
 -- the first sync, and what comes behind it
-pub syncs_then : (old mid new : BoardView) (P Q R : Left → Type 0) → SyncsFirst old mid P → LeavesOnly mid new Q → ((left : Left) → P left → R left) → ((left : Left) → Q left → R left) → SyncsThen old new R
+pub syncs_then : (old mid new : BoardView) (P Q R : CrashState → Type 0) → SyncsFirst old mid P → LeavesOnly mid new Q → ((left : CrashState) → P left → R left) → ((left : CrashState) → Q left → R left) → SyncsThen old new R
 syncs_then old mid new P Q R first later p q = record {
   synced = first.synced;
   after_start = first.after_start;
@@ -16,7 +16,7 @@ syncs_then old mid new P Q R first later p q = record {
 }
 
 -- the first sync alone
-pub syncs_only : (old new : BoardView) (P R : Left → Type 0) → SyncsFirst old new P → ((left : Left) → P left → R left) → SyncsThen old new R
+pub syncs_only : (old new : BoardView) (P R : CrashState → Type 0) → SyncsFirst old new P → ((left : CrashState) → P left → R left) → SyncsThen old new R
 syncs_only old new P R first p = record {
   synced = first.synced;
   after_start = first.after_start;
@@ -26,7 +26,7 @@ syncs_only old new P R first p = record {
 }
 
 module _ (source : Option (List ℕ)) (old : BoardView) where
-  pub as_read : (left : Left) → LeavesAsRead old left → LeavesMade source old left
+  pub as_read : (left : CrashState) → LeavesAsRead old left → LeavesMade source old left
   as_read left read = record {
     steps = read.0;
     formatted = λ is. read.1;
@@ -38,7 +38,7 @@ module _ (source : Option (List ℕ)) (old : BoardView) where
   kept new first = inr (syncs_only old new (LeavesAsRead old) (LeavesMade source old) first as_read)
 
   module _ (mid : BoardView) (settings : List ℕ) (sent : mid.sent ≡ old.sent) (isnt : IsFormatted old.octets → ⊥) (gives : Gives source settings) where
-    while_made : (left : Left) → SameSteps mid left × IsEmptyOrUnformatted controller settings left.image → LeavesMade source old left
+    while_made : (left : CrashState) → SameSteps mid left × IsEmptyOrUnformatted controller settings left.image → LeavesMade source old left
     while_made left made = record {
       steps = record { issued = made.0.issued ∙ ap steps_of sent; told = made.0.told ∙ ap tolds_of sent };
       formatted = λ is. absurd (isnt is);

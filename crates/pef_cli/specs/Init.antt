@@ -1,14 +1,15 @@
 -- What formatting a controller's state file does, answers and leaves.
 use Rattle.std.specs.Prelude.{◌≡◌, ◌⊎◌, ℕ, ◌≤◌, IsTrue, List, [], ◌∷◌, ◌++◌, ◌+◌, length, drop, Option, Some, None}
 use Rattle.board_core.specs.Causes.{Rose}
-use Rattle.board_core.specs.Board.{BoardView, Left, LeftNow, SameSteps, Only, NeverSynced}
+use Rattle.board_core.specs.Board.{SyncsThen, BoardView, CrashState, LeftNow, SameSteps, Only, NeverSynced}
 use Rattle.pef_journal.specs.Image.{header, IsFormatted, Stands}
 use Rattle.script_text.specs.Settings.{settings_of}
 use Rattle.script_text.specs.declared.whole.TextFault.{TextFault}
 use Rattle.script_text.specs.declared.whole.TextFault.TheVariants.{Source, Memory as TextMemory}
 use Rattle.pef_cli.specs.declared.init_fault.InitFault.{InitFault}
 use Rattle.pef_cli.specs.declared.init_fault.InitFault.TheVariants.{Disk, Formatted, Input, Settings, Memory}
-use Rattle.pef_cli.specs.Output.{IsOneOf, Says}
+use Rattle.script_run.specs.Status.{IsOneOf}
+use Rattle.pef_cli.specs.Output.{Says}
 
 -- the kind of a controller's state file
 abbrev pub controller : ℕ
@@ -43,20 +44,12 @@ pub record IsMade (source : Option (List ℕ)) (old new : BoardView) : Type 0 wh
   pub octets : new.octets ≡ header controller settings ++ 0 ∷ drop (5 + length settings) old.octets
   pub lasting : Only new.octets new.images
 
--- Until a first sync has returned, a crash leaves what it could before, or what has P; from then on it leaves what has P.
-pub record SyncsThen (old new : BoardView) (P : Left → Type 0) : Type 0 where
-  pub synced : ℕ
-  pub after_start : old.moment ≤ synced
-  pub by_now : synced ≤ new.moment
-  pub until : (c : Left) → new.left_since old.moment c → LeftNow old c ⊎ P c
-  pub since : (c : Left) → new.left_since synced c → P c
-
 -- the file isn't formatted, or stands for the empty history under the settings that the text gives
 abbrev pub IsUnformattedOrMade : Option (List ℕ) → List ℕ → Type 0
 IsUnformattedOrMade source file = (IsFormatted file → ⊥) ⊎ ((settings : List ℕ) × Gives source settings × Stands controller settings [] file)
 
 -- a formatted file is left as it was, and one that isn't formatted is so still or is made; no step is issued
-pub record LeavesMade (source : Option (List ℕ)) (old : BoardView) (left : Left) : Type 0 where
+pub record LeavesMade (source : Option (List ℕ)) (old : BoardView) (left : CrashState) : Type 0 where
   pub steps : SameSteps old left
   pub formatted : IsFormatted old.octets → left.image ≡ old.octets
   pub unformatted : (IsFormatted old.octets → ⊥) → IsUnformattedOrMade source left.image

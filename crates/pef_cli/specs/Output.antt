@@ -33,8 +33,3 @@ pub record Says (before after : Option (List ℕ)) (faults_before faults_after s
   pub cut : status ≡ 8 → WritesPart (last_line 0) before after
   pub refusal : status ≢ 0 → status ≢ 8 →
       Writes (last_line status) before after ⊎ (WritesPart (last_line status) before after × Rose faults_before faults_after)
-
--- one of these statuses
-abbrev pub IsOneOf : ℕ → List ℕ → Type 0
-IsOneOf status [] = ⊥
-IsOneOf status (x ∷ xs) = (status ≡ x) ⊎ IsOneOf status xs

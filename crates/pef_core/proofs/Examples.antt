@@ -8,7 +8,7 @@ use Rattle.event_record.specs.declared.fault.LogFault.TheVariants.{Duplicate}
 use Rattle.filter_table.specs.declared.data_test.DataTest.{DataTest}
 use Rattle.pef_engine.specs.declared.entry.Entry.{Entry}
 use Rattle.pef_engine.specs.declared.entry.Entry.TheVariants.{Item as Taken, Outcome}
-use Rattle.pef_engine.specs.Lines.{line}
+use Rattle.pef_engine.specs.CrashFree.{crash_free_run}
 use Rattle.pef_core.specs.declared.item.Item.{Item}
 use Rattle.pef_core.specs.declared.item.Item.TheVariants.{Event, Open, Close}
 use Rattle.pef_core.specs.declared.note.Note.TheVariants.{Added, Refused, NotAdded, Nothing}

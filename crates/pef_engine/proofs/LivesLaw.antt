@@ -5,9 +5,9 @@ use Rattle.board_core.specs.declared.step.Step.{Step}
 use Rattle.pef_engine.specs.declared.entry.Entry.{Entry}
 use Rattle.pef_engine.specs.declared.entry.Entry.TheVariants.{Item, Outcome}
 use Rattle.pef_engine.specs.Rules.{Rules, LawfulFrom}
-use Rattle.pef_engine.specs.Lines.{Kept, prescribed, prescribed_from, option_list}
+use Rattle.pef_engine.specs.CrashFree.{Kept, prescribed, prescribed_from, option_list}
 use Rattle.pef_engine.specs.Lives.{Life, AreLives, steps_of_lives, last_history, Thins, BeginsWith, IsRepeating}
-use Rattle.pef_engine.proofs.OnLine.{prescribed-append}
+use Rattle.pef_engine.proofs.Prefixes.{prescribed-append}
 
 pub Thins_more : {A : Type 0} (n : ℕ) (xs ys : List A) → Thins n xs ys → Thins (suc n) xs ys
 Thins_more n [] ys t = t

@@ -2,7 +2,7 @@
 use Rattle.std.proofs.Common.{◌≡◌, ◌⊎◌, inl, inr, ⊎_elim, ℕ, List, [], ◌∷◌, ◌++◌, map, Option, Some, Ok, Err, true, false, IsTrue, refl, sym, ◌∙◌, ap, subst, append_assoc}
 use Rattle.std.proofs.lemmas.List.{append-nil, map-append}
 use Rattle.std.specs.Prelude.{IsErrOf}
-use Rattle.board_core.specs.Board.{BoardView, Left, IsFileRun, SyncsFirst, NeverSynced}
+use Rattle.board_core.specs.Board.{BoardView, CrashState, IsFileRun, SyncsFirst, NeverSynced}
 use Rattle.pef_engine.specs.declared.entry.Entry.{Entry}
 use Rattle.pef_engine.specs.declared.entry.Entry.TheVariants.{Item, Outcome}
 use Rattle.pef_engine.specs.declared.engine.Engine.{Engine}
@@ -15,7 +15,7 @@ use Rattle.pef_journal.specs.Image as image
 use Rattle.pef_journal.specs.Journal.{IsAt, HasRead, GivesEntry, Finds, LeavesAsRead}
 use Rattle.pef_engine.specs.Rules.{Rules, Allowed, LawfulFrom, Lawful, Stands, Decodes, BreaksAt}
 use Rattle.pef_engine.specs.MachineView.{MachineView, IsOver, GoesOn}
-use Rattle.pef_engine.specs.Lines.{LeavesPrefix}
+use Rattle.pef_engine.specs.CrashFree.{LeavesPrefix}
 use Rattle.pef_engine.specs.Engine.{Holds, Replayed, AllDecode, AfterOpen, HasCorruptCause}
 use Rattle.pef_journal.proofs.Moments.{syncs_map}
 use Rattle.pef_journal.proofs.ReadOn.{reads_stand}
@@ -62,7 +62,7 @@ module _ {I M : Type 0} (rules : Rules I) (view : M → MachineView I) (are : (Z
 
 module _ {I M : Type 0} (rules : Rules I) (view : M → MachineView I) (Z : List ℕ) (H : List (Entry I)) (start new : BoardView) (tells : IsTrue new.tells) (run : IsFileRun start new)
     (octets : IsTrue new.tells → new.octets ≡ start.octets) (stands : Stands rules Z H start.octets) where
-  prefix_of : (left : Left) → LeavesAsRead start left → LeavesPrefix rules Z H start [] left
+  prefix_of : (left : CrashState) → LeavesAsRead start left → LeavesPrefix rules Z H start.sent [] left
   prefix_of left p = leaves_start rules Z H start [] left p.0 (subst (Stands rules Z H) (sym p.1) stands)
 
   -- whatever fault ends it
@@ -72,7 +72,7 @@ module _ {I M : Type 0} (rules : Rules I) (view : M → MachineView I) (Z : List
     holds = tt;
     sent = run.sent tells;
     octets = octets tells;
-    any_moment = ⊎_elim inl (λ s. inr (syncs_map start new (LeavesAsRead start) (LeavesPrefix rules Z H start []) prefix_of s)) moments;
+    any_moment = ⊎_elim inl (λ s. inr (syncs_map start new (LeavesAsRead start) (LeavesPrefix rules Z H start.sent []) prefix_of s)) moments;
     synced = tt;
     formatted = formatted;
     unbroken = unbroken;
@@ -84,8 +84,8 @@ module _ {I M : Type 0} (rules : Rules I) (view : M → MachineView I) (Z : List
     holds = holds;
     sent = run.sent tells;
     octets = octets tells;
-    any_moment = inr (syncs_map start new (LeavesAsRead start) (LeavesPrefix rules Z H start []) prefix_of moments);
-    synced = syncs_map start new (LeavesAsRead start) (LeavesPrefix rules Z H start []) prefix_of moments;
+    any_moment = inr (syncs_map start new (LeavesAsRead start) (LeavesPrefix rules Z H start.sent []) prefix_of moments);
+    synced = syncs_map start new (LeavesAsRead start) (LeavesPrefix rules Z H start.sent []) prefix_of moments;
     formatted = λ err. cc err;
     unbroken = λ at err. cc err;
   }

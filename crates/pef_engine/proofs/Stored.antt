@@ -7,7 +7,7 @@ use Rattle.pef_journal.specs.Image as image
 use Rattle.pef_journal.specs.Journal.{IsAtEnd}
 use Rattle.pef_journal.specs.declared.journal.Journal.{Journal}
 use Rattle.pef_engine.specs.Rules.{Rules, Allowed, LawfulFrom, Lawful, Stands}
-use Rattle.pef_engine.specs.Lines.{LeavesPrefix}
+use Rattle.pef_engine.specs.CrashFree.{LeavesPrefix}
 use Rattle.pef_engine.proofs.Moments.{leaves_start}
 
 -- the same octets and images
@@ -39,7 +39,7 @@ module _ {I : Type 0} (rules : Rules I) (Z : List ℕ) where
   lawful-append H e lawful allowed = lawful_from-append [] H e lawful allowed
 
   -- a call that does nothing
-  pub nothing_moments : (H : List (Entry I)) (v : BoardView) (items : List I) → IsSound v → IsTrue v.tells → ((c : List ℕ) → v.images c → Stands rules Z H c) → LeavesOnly v v (LeavesPrefix rules Z H v items)
+  pub nothing_moments : (H : List (Entry I)) (v : BoardView) (items : List I) → IsSound v → IsTrue v.tells → ((c : List ℕ) → v.images c → Stands rules Z H c) → LeavesOnly v v (LeavesPrefix rules Z H v.sent items)
   nothing_moments H v items sound tells stands = record {
     later = omega arith;
     each = λ left since.

@@ -12,7 +12,7 @@ use Rattle.pef_engine.specs.declared.faults.EngineFault.{EngineFault}
 use Rattle.pef_engine.specs.declared.faults.EngineFault.TheVariants.{NotFormatted, Corrupt, DiskFault, Full, Memory}
 use Rattle.pef_engine.specs.Rules.{Rules, Lawful, Decodes, BreaksAt}
 use Rattle.pef_engine.specs.MachineView.{MachineView}
-use Rattle.pef_engine.specs.Lines.{LeavesPrefix}
+use Rattle.pef_engine.specs.CrashFree.{LeavesPrefix}
 
 abbrev pub IsLive : {M I : Type 0} → Engine M I → Type 0
 IsLive engine = IsTrue engine.live × HasEnded engine.journal
@@ -45,8 +45,8 @@ pub record AfterOpen {I M : Type 0} (rules : Rules I) (view : M → MachineView 
   pub holds : IfOk result (λ engine. Holds rules view Z H new engine)
   pub sent : new.sent ≡ old.sent
   pub octets : new.octets ≡ old.octets
-  pub any_moment : NeverSynced old new ⊎ SyncsFirst old new (LeavesPrefix rules Z H old [])
-  pub synced : OnOk result (SyncsFirst old new (LeavesPrefix rules Z H old []))
+  pub any_moment : NeverSynced old new ⊎ SyncsFirst old new (LeavesPrefix rules Z H old.sent [])
+  pub synced : OnOk result (SyncsFirst old new (LeavesPrefix rules Z H old.sent []))
   pub formatted : IsErrOf result NotFormatted → ⊥
   pub unbroken : (at : ℕ) → IsErrOf result (Corrupt at) → ⊥
 

@@ -1,6 +1,6 @@
 pub mod Rules
 pub mod MachineView
-pub mod Lines
+pub mod CrashFree
 pub mod Lives
 pub mod Engine
 pub mod Scripts

@@ -1,9 +1,11 @@
 -- Several lives of one file, each cut at any moment or returned.
-use Rattle.std.specs.Prelude.{◌≡◌, ◌⊎◌, ⊤, ℕ, suc, List, [], ◌∷◌, ◌++◌, Some}
+use Rattle.std.specs.Prelude.{◌≡◌, ◌⊎◌, ⊤, ℕ, suc, List, [], ◌∷◌, ◌++◌, length, drop, Some}
 use Rattle.board_core.specs.declared.step.Step.{Step}
+use Rattle.board_core.specs.declared.step.Sent.{Sent}
+use Rattle.board_core.specs.Board.{CrashState}
 use Rattle.pef_engine.specs.declared.entry.Entry.{Entry}
 use Rattle.pef_engine.specs.Rules.{Rules, LawfulFrom}
-use Rattle.pef_engine.specs.Lines.{Kept, prescribed}
+use Rattle.pef_engine.specs.CrashFree.{Kept, LeavesPrefix, prescribed}
 
 -- what one life stored, and the steps that it issued
 pub record Life (I : Type 0) : Type 0 where
@@ -39,3 +41,21 @@ pub record IsRepeating {I : Type 0} (rules : Rules I) (Z : List ℕ) (n : ℕ) (
   pub thinned : List Step
   pub thins : Thins n steps thinned
   pub kept : (thinned ≡ prescribed rules Z H) ⊎ ((step : Step) × (rules.pending Z H ≡ Some step) × (thinned ≡ prescribed rules Z H ++ step ∷ []))
+
+-- one call of a program on a file: what had been sent before it, the items that it was given, and what it left, cut at any moment
+-- or returned
+pub record Call (I : Type 0) : Type 0 where
+  pub sent : List Sent
+  pub items : List I
+  pub left : CrashState
+
+-- From H on, each call left a prefix of its run without a crash behind the history that the one before it left, and the last of
+-- these histories is G.
+abbrev pub AreCalls : {I : Type 0} → Rules I → List ℕ → List (Entry I) → List (Call I) → List (Entry I) → Type 0
+AreCalls rules Z H [] G = G ≡ H
+AreCalls rules Z H (call ∷ calls) G = (here : LeavesPrefix rules Z H call.sent call.items call.left) × AreCalls rules Z (H ++ here.entries) calls G
+
+-- the steps that were issued in the calls, in order
+abbrev pub steps_of_calls : {I : Type 0} → List (Call I) → List Step
+steps_of_calls [] = []
+steps_of_calls (call ∷ calls) = drop (length call.sent) call.left.issued ++ steps_of_calls calls

@@ -6,7 +6,7 @@ ghost use Rattle.pef_engine.specs.declared.entry.Entry.{Entry};
 ghost use Rattle.pef_engine.specs.declared.entry.Entry.TheVariants.{Outcome};
 ghost use Rattle.pef_engine.specs.Rules.{Rules, IsItem};
 ghost use Rattle.pef_engine.specs.MachineView.{MachineView, IsOver, IsReadyFor, KeepsAllButReady, GoesOn};
-ghost use Rattle.pef_engine.specs.Lines.{LeavesPrefix, items_of};
+ghost use Rattle.pef_engine.specs.CrashFree.{LeavesPrefix, items_of};
 ghost use Rattle.pef_engine.specs.Engine.{Holds, IsLive, HasPlace, AfterTake, AfterSettle, HasRoomForOutcome, HasRoomForEntry};
 
 use crate::entry::Entry;
@@ -41,7 +41,7 @@ impl<M: Machine> Engine<M> {
             AfterTake M.rules M.view Z H entry.now (B.view board.old) (B.view board.new) self.new result }
         ensures any_moment { IsTrue (B.view board.new).tells → (Z : List ℕ) (H : List (Entry M.Item)) →
             Holds M.rules M.view Z H (B.view board.old) self.old →
-            LeavesOnly (B.view board.old) (B.view board.new) (LeavesPrefix M.rules Z H (B.view board.old) (items_of entry.now)) }
+            LeavesOnly (B.view board.old) (B.view board.new) (LeavesPrefix M.rules Z H (B.view board.old).sent (items_of entry.now)) }
         ensures full { IsErrOf result EngineFault.Full → IsOver (M.view self.old.machine) entry.now ⊎ (HasRoomForEntry M.rules self.old entry.now → ⊥) }
         ensures over { IsOver (M.view self.old.machine) entry.now ⊎ (HasRoomForEntry M.rules self.old entry.now → ⊥) →
             IsErrOf result EngineFault.Full ⊎ (IsErr result × IsTrue M.rules.takes_memory) }
@@ -83,7 +83,7 @@ impl<M: Machine> Engine<M> {
             AfterSettle M.rules M.view Z H (B.view board.old) (B.view board.new) self.new result }
         ensures any_moment { IsTrue (B.view board.new).tells → (Z : List ℕ) (H : List (Entry M.Item)) →
             Holds M.rules M.view Z H (B.view board.old) self.old →
-            LeavesOnly (B.view board.old) (B.view board.new) (LeavesPrefix M.rules Z H (B.view board.old) []) }
+            LeavesOnly (B.view board.old) (B.view board.new) (LeavesPrefix M.rules Z H (B.view board.old).sent []) }
         ensures none { IfOk result (λ told. (told ≡ None) ↔ ((M.view self.old.machine).due ≡ None)) }
         ensures goes_on { IfOk result (λ told. (given : _) → told ≡ Some given → GoesOn M.rules (M.view self.old.machine) (M.view self.new.machine) (Outcome given)) }
         ensures idle { IfOk result (λ told. told ≡ None → (self.new ≡ self.old) × (board.new ≡ board.old)) }

@@ -13,7 +13,7 @@ mod scripted;
 pub use engine::Engine;
 pub use entry::Entry;
 pub use faults::{EngineFault, MachineFault};
-pub use laws::lives_law;
+pub use laws::{calls_law, lives_law};
 pub use machine::Machine;
 pub use script::Script;
 pub use scripted::{ReportLine, Scripted};

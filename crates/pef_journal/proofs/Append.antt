@@ -2,7 +2,7 @@
 use Rattle.std.proofs.Common.{◌≡◌, ◌≢◌, inl, inr, ℕ, ◌+◌, ◌/◌, ◌%◌, ◌≤◌, max, List, [], ◌∷◌, ◌++◌, length, get_or, take, drop, IsTrue, refl, sym, ◌∙◌, ap, subst, arith, append_assoc, length-append, take-append-drop, ◌-◌}
 use Rattle.std.proofs.lemmas.Bool.{cases_eq}
 use Rattle.std.proofs.lemmas.List.{take_at, drop_at, drop_more, append-nil, length-drop, length-take-le, take-append-le}
-use Rattle.board_core.specs.Board.{BoardView, Left, LeftNow, IsSound, IsFileCall, LeavesOnly, SameSteps, Torn, Follows, Holds, Only, steps_of, tolds_of}
+use Rattle.board_core.specs.Board.{BoardView, CrashState, LeftNow, IsSound, IsFileCall, LeavesOnly, SameSteps, Torn, Follows, Holds, Only, steps_of, tolds_of}
 use Rattle.pef_journal.specs.Image.{header, blocks, frame, IsPayload, AllPayloads, HasEntries, Stands}
 use Rattle.pef_journal.specs.Journal.{IsAtEnd, StandsForEither}
 use Rattle.pef_journal.specs.declared.journal.Journal.{Journal}
@@ -112,10 +112,10 @@ module _ (kind : ℕ) (Z : List ℕ) (E : List (List ℕ)) (v : BoardView) (jour
         holds ∙ ap (λ l. l ++ (165 ∷ []) ++ drop (journal.place + 1) (staged gate tail)) (front_is gate tail) ∙ ap (λ l. front ++ (165 ∷ []) ++ l) (back_is gate tail)
         ∙ append_assoc front (165 ∷ []) ((length p % 256) ∷ (length p / 256) ∷ (p ++ 0 ∷ tail))
 
-    abbrev Leaves : Left → Type 0
+    abbrev Leaves : CrashState → Type 0
     Leaves left = SameSteps v left × StandsForEither kind Z E p left.image
 
-    steps_same : (w : BoardView) (left : Left) → w.sent ≡ v.sent → LeftNow w left → SameSteps v left
+    steps_same : (w : BoardView) (left : CrashState) → w.sent ≡ v.sent → LeftNow w left → SameSteps v left
     steps_same w left sent now = record { issued = now.issued ∙ ap steps_of sent; told = now.told ∙ ap tolds_of sent }
 
     pub at_start : IsSound v → IsTrue v.tells → LeavesOnly v v Leaves

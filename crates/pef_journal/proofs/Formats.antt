@@ -2,7 +2,7 @@
 use Rattle.std.proofs.Common.{◌≡◌, ◌≢◌, inl, inr, ℕ, ◌+◌, ◌/◌, ◌%◌, ◌≤◌, IsTrue, List, [], ◌∷◌, ◌++◌, length, get_or, take, drop, refl, sym, ◌∙◌, ap, subst, arith, append_assoc, length-append}
 use Rattle.std.proofs.lemmas.Bool.{cases_eq}
 use Rattle.std.proofs.lemmas.List.{drop_more, drop-drop}
-use Rattle.board_core.specs.Board.{BoardView, Left, LeftNow, IsSound, IsFileRun, IsFileCall, Reads, LeavesOnly, SameSteps, Torn, Follows, Holds, Only, steps_of, tolds_of}
+use Rattle.board_core.specs.Board.{BoardView, CrashState, LeftNow, IsSound, IsFileRun, IsFileCall, Reads, LeavesOnly, SameSteps, Torn, Follows, Holds, Only, steps_of, tolds_of}
 use Rattle.pef_journal.specs.Image.{header, HasSettingsLength, IsFormatted, Stands, IsEmptyOrUnformatted}
 use Rattle.pef_journal.specs.Format.{body, MayBeMarked, IsUnmarked, LeavesUnformatted}
 use Rattle.pef_journal.proofs.Moments.{started, goes_on, leaves_map}
@@ -29,7 +29,7 @@ torn_mark old c not_yet (inr marked) torn is =
     let same : c ≡ old = mark.1 ∙ ap (λ l. 165 ∷ l) (ap (drop 1) (sym mark.1) ∙ back ∙ ap (drop 1) marked.1) ∙ sym marked.1 in
     not_yet (subst IsFormatted same is)
 
-steps_same : (v w : BoardView) (left : Left) → w.sent ≡ v.sent → LeftNow w left → SameSteps v left
+steps_same : (v w : BoardView) (left : CrashState) → w.sent ≡ v.sent → LeftNow w left → SameSteps v left
 steps_same v w left sent now = record { issued = now.issued ∙ ap steps_of sent; told = now.told ∙ ap tolds_of sent }
 
 module _ (v w : BoardView) (sound : IsSound v) (lasting : IsTrue v.tells → Only v.octets v.images) (not_yet : IsTrue v.tells → IsFormatted v.octets → ⊥) (reads : Reads v w) where
@@ -70,7 +70,7 @@ module _ (v w : BoardView) (sound : IsSound v) (lasting : IsTrue v.tells → Onl
 -- ---- behind the mark
 
 module _ (kind : ℕ) (Z : List ℕ) (v a : BoardView) (fits : HasSettingsLength kind Z) (so_far : LeavesOnly v a (LeavesUnformatted v)) (run : IsFileRun v a) (tells_a : IsTrue a.tells) (is_unmarked : IsUnmarked v.octets a.octets) (only : Only a.octets a.images) where
-  abbrev Leaves : Left → Type 0
+  abbrev Leaves : CrashState → Type 0
   Leaves left = SameSteps v left × IsEmptyOrUnformatted kind Z left.image
 
   abbrev old_tail : List ℕ

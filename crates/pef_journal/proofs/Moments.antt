@@ -1,14 +1,14 @@
 -- What a crash leaves while calls follow one another.
 use Rattle.std.proofs.Common.{◌≡◌, ◌↔◌, inl, inr, ⊎_elim, ℕ, List, IsTrue, sym, ◌∙◌, ap, arith}
 use Rattle.pef_journal.specs.Journal.{LeavesAsRead}
-use Rattle.board_core.specs.Board.{BoardView, Left, LeftNow, IsSound, IsFileRun, IsFileCall, Reads, LeavesOnly, SyncsFirst, NeverSynced, steps_of, tolds_of, Only}
+use Rattle.board_core.specs.Board.{BoardView, CrashState, LeftNow, IsSound, IsFileRun, IsFileCall, Reads, LeavesOnly, SyncsFirst, NeverSynced, steps_of, tolds_of, Only}
 
 -- before the first call
-pub started : (v : BoardView) (P : Left → Type 0) → IsSound v → IsTrue v.tells → ((left : Left) → LeftNow v left → P left) → LeavesOnly v v P
+pub started : (v : BoardView) (P : CrashState → Type 0) → IsSound v → IsTrue v.tells → ((left : CrashState) → LeftNow v left → P left) → LeavesOnly v v P
 started v P sound tells here = record { later = omega arith; each = λ left since. here left (sound.only_now tells left since); before = λ t left le since. inl since }
 
 -- one call of the file more
-pub goes_on : (old mid new : BoardView) (P : Left → Type 0) → LeavesOnly old mid P → IsFileCall mid new → IsTrue new.tells → ((left : Left) → LeftNow new left → P left) → LeavesOnly old new P
+pub goes_on : (old mid new : BoardView) (P : CrashState → Type 0) → LeavesOnly old mid P → IsFileCall mid new → IsTrue new.tells → ((left : CrashState) → LeftNow new left → P left) → LeavesOnly old new P
 goes_on old mid new P so_far call tells here = record {
   later = omega (arith, so_far.later, call.run.later tells);
   each = λ left since. ⊎_elim (so_far.each left) (here left) (call.nothing_else tells old.moment left so_far.later since);
@@ -28,7 +28,7 @@ run_compose u v w first second = record {
 }
 
 -- two runs, one behind the other
-pub leaves_compose : (start now new : BoardView) (P Q : Left → Type 0) → LeavesOnly start now P → LeavesOnly now new Q → ((left : Left) → Q left → P left) → LeavesOnly start new P
+pub leaves_compose : (start now new : BoardView) (P Q : CrashState → Type 0) → LeavesOnly start now P → LeavesOnly now new Q → ((left : CrashState) → Q left → P left) → LeavesOnly start new P
 leaves_compose start now new P Q first second along = record {
   later = omega (arith, first.later, second.later);
   each = λ left since. ⊎_elim (first.each left) (along left) (second.before start.moment left first.later since);
@@ -36,18 +36,18 @@ leaves_compose start now new P Q first second along = record {
 }
 
 -- the same said of a weaker fact
-pub leaves_map : (old new : BoardView) (P Q : Left → Type 0) → ((left : Left) → P left → Q left) → LeavesOnly old new P → LeavesOnly old new Q
+pub leaves_map : (old new : BoardView) (P Q : CrashState → Type 0) → ((left : CrashState) → P left → Q left) → LeavesOnly old new P → LeavesOnly old new Q
 leaves_map old new P Q along run = record {
   later = run.later;
   each = λ left since. along left (run.each left since);
   before = λ t left le since. ⊎_elim inl (λ p. inr (along left p)) (run.before t left le since);
 }
 
-pub syncs_map : (old new : BoardView) (P Q : Left → Type 0) → ((left : Left) → P left → Q left) → SyncsFirst old new P → SyncsFirst old new Q
+pub syncs_map : (old new : BoardView) (P Q : CrashState → Type 0) → ((left : CrashState) → P left → Q left) → SyncsFirst old new P → SyncsFirst old new Q
 syncs_map old new P Q along s = record { synced = s.synced; after_start = s.after_start; by_now = s.by_now; until = s.until; since = λ left now. along left (s.since left now) }
 
 -- a call that only reads: a crash in it leaves what it could just before
-pub syncs_reads : (start now new : BoardView) (P : Left → Type 0) → IsSound now → IsSound new → Reads now new → IsTrue new.tells → SyncsFirst start now P → SyncsFirst start new P
+pub syncs_reads : (start now new : BoardView) (P : CrashState → Type 0) → IsSound now → IsSound new → Reads now new → IsTrue new.tells → SyncsFirst start now P → SyncsFirst start new P
 syncs_reads start now new P sound_now sound_new reads tells s = record {
   synced = s.synced;
   after_start = s.after_start;
@@ -79,7 +79,7 @@ reads_compose u v w first second = record {
   );
 }
   where
-    read_later : (left : Left) → IsTrue w.tells → LeftNow v left → LeftNow w left
+    read_later : (left : CrashState) → IsTrue w.tells → LeftNow v left → LeftNow w left
     read_later left tells now = record {
       image = (second.images tells left.image).1 now.image;
       issued = now.issued ∙ ap steps_of (sym (second.call.run.sent tells));

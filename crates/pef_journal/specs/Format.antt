@@ -1,6 +1,6 @@
 -- The steps of formatting a file.
 use Rattle.std.specs.Prelude.{◌≡◌, ◌≢◌, ◌⊎◌, ℕ, ◌/◌, ◌%◌, List, [], ◌∷◌, ◌++◌, length, drop}
-use Rattle.board_core.specs.Board.{BoardView, Left, SameSteps}
+use Rattle.board_core.specs.Board.{BoardView, CrashState, SameSteps}
 use Rattle.pef_journal.specs.Image.{IsFormatted}
 
 -- what stands behind octet 0 up to the first gate, which is closed
@@ -16,5 +16,5 @@ abbrev pub IsUnmarked : List ℕ → List ℕ → Type 0
 IsUnmarked old new = (octet : ℕ) × (octet ≢ 165) × (new ≡ octet ∷ drop 1 old)
 
 -- a crash leaves a file that isn't formatted, and no further step
-abbrev pub LeavesUnformatted : BoardView → Left → Type 0
+abbrev pub LeavesUnformatted : BoardView → CrashState → Type 0
 LeavesUnformatted v left = SameSteps v left × (IsFormatted left.image → ⊥)

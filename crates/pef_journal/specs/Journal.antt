@@ -1,6 +1,6 @@
 -- Where a journal stands in its file.
 use Rattle.std.specs.Prelude.{◌≡◌, ◌⊎◌, ℕ, ◌+◌, ◌≤◌, Bool, true, false, IsTrue, List, [], ◌∷◌, ◌++◌, length, Result, Ok, Err, ⊤}
-use Rattle.board_core.specs.Board.{BoardView, Left, Only, SameSteps}
+use Rattle.board_core.specs.Board.{BoardView, CrashState, Only, SameSteps}
 use Rattle.pef_journal.specs.Image.{header, blocks, HasHeader, HasEntries, AllPayloads, Stands, IsShutAt, IsCorruptAt, HasEntryAt}
 use Rattle.pef_journal.specs.declared.fault.JournalFault.{JournalFault}
 use Rattle.pef_journal.specs.declared.fault.JournalFault.TheVariants.{NotFormatted, Corrupt, DiskFault, Full}
@@ -18,7 +18,7 @@ abbrev pub KnowsLength : BoardView → Journal → Type 0
 KnowsLength v journal = IsTrue v.tells → journal.file_length ≡ length v.octets
 
 -- a crash leaves the file as a read gave it then, and no further step
-abbrev pub LeavesAsRead : BoardView → Left → Type 0
+abbrev pub LeavesAsRead : BoardView → CrashState → Type 0
 LeavesAsRead v left = SameSteps v left × (left.image ≡ v.octets)
 
 -- it has read these entries, and stands behind the last of them, whatever comes next; all of it is on the disk

@@ -7,20 +7,22 @@ use Rattle.board_core.specs.Board.{BoardView}
 use Rattle.pef_engine.specs.declared.entry.Entry.{Entry}
 use Rattle.pef_engine.specs.Rules.{Rules, Lawful, Stands, StandsForNone}
 use Rattle.pef_engine.specs.MachineView.{MachineView}
-use Rattle.pef_engine.specs.Lines.{line}
+use Rattle.pef_engine.specs.CrashFree.{crash_free_run}
 use Rattle.pef_engine.specs.Scripts.{ScriptRules}
 use Rattle.script_text.specs.Script.{said_of, bad_line}
 use Rattle.script_run.specs.declared.stop.Stop.{Stop}
 use Rattle.script_run.specs.declared.stop.Stop.TheVariants.{Unformatted, Line, Unfinished, Input, Disk, Output, Full, Memory}
 use Rattle.script_run.specs.Items.{IsOther, items_of_text}
 use Rattle.script_run.specs.Report.{report_from, says, ok_line, bad_line_line, unfinished_line}
-use Rattle.script_run.specs.Top.{RunTakes, RunIsWhole, RunStops, IsPartOf, Performs, Finishes, AnswersNone, RunAnswers, RunCall, IsOneOf, last_line, status_of}
+use Rattle.script_run.specs.Top.{RunTakes, RunIsWhole, RunStops, RunAnswers, RunCall}
+use Rattle.script_run.specs.Status.{IsPartOf, Finishes, IsOneOf, last_line, status_of}
+use Rattle.script_run.specs.Playing.{Performs, AnswersNone}
 
 module _ {I : Type 0} (rules : Rules I) (scripts : ScriptRules I) (Z : List ℕ) (H : List (Entry I)) (items : List I) (old new : BoardView) where
   -- part of a last line behind the report
   pub part_on : (before mid after : Option (List ℕ)) (part : List ℕ) → RunTakes rules (says rules scripts) Z H items old new before mid [] → ((text : List ℕ) → mid ≡ Some text → after ≡ Some (text ++ part)) → RunTakes rules (says rules scripts) Z H items old new before after part
   part_on before mid after part t wrote =
-      let report = report_from (says rules scripts) Z H (line rules Z H items t.tolds) in record {
+      let report = report_from (says rules scripts) Z H (crash_free_run rules Z H items t.tolds) in record {
         tolds = t.tolds;
         told = t.told;
         taken = t.taken;
@@ -37,7 +39,7 @@ module _ {I : Type 0} (rules : Rules I) (scripts : ScriptRules I) (Z : List ℕ)
     takes = record { tolds = t.tolds; told = t.told; taken = t.taken; lasting = t.lasting; written = λ text is. absurd (untold text is) };
   }
   stops_on before mid after w0 w1 w2 last later t wrote (inr told) =
-      let report = report_from (says rules scripts) Z H (line rules Z H items t.tolds) in
+      let report = report_from (says rules scripts) Z H (crash_free_run rules Z H items t.tolds) in
       let w = wrote (told.0 ++ (report ++ [])) (t.written told.0 told.1) in record {
         part = w.0;
         is_part = (w.2.0, ⊎_elim inl (λ rose. inr (rose_later w0 w1 w2 later rose)) w.2.1);

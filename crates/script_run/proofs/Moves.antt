@@ -6,7 +6,7 @@ use Rattle.pef_engine.specs.declared.entry.Entry.{Entry}
 use Rattle.pef_engine.specs.declared.entry.Entry.TheVariants.{Item, Outcome}
 use Rattle.pef_engine.specs.Rules.{Rules, Lawful}
 use Rattle.pef_engine.specs.MachineView.{MachineView, GoesOn, Agrees, KeepsAllButReady}
-use Rattle.pef_engine.specs.Lines.{items_of, entry_items}
+use Rattle.pef_engine.specs.CrashFree.{items_of, entry_items}
 use Rattle.pef_engine.proofs.Stored.{lawful-append}
 use Rattle.script_run.specs.Run.{Moved, MovesOn}
 use Rattle.script_run.proofs.RunLemmas.{entry_items-append}

@@ -3,7 +3,7 @@ use Rattle.std.proofs.Common.{◌≡◌, ◌⊎◌, inl, inr, ⊎_elim, ℕ, zer
 use Rattle.std.specs.Prelude.{IsErrOf, IsFalse, IfSome}
 use Rattle.std.proofs.lemmas.List.{append-nil}
 use Rattle.std.proofs.lemmas.Bool.Decides.{nat_tests}
-use Rattle.board_core.specs.Board.{BoardView, Left, IsSound, LeavesOnly}
+use Rattle.board_core.specs.Board.{BoardView, CrashState, IsSound, LeavesOnly}
 use Rattle.script_text.specs.Lines.{lines_of}
 use Rattle.script_text.specs.Reading.{HasLeft}
 use Rattle.script_text.specs.Script.{Given, Said, given, bad_line, said_of, said_of_lines, said_by, form_of_line, HasNoForm, HasForm}
@@ -15,7 +15,7 @@ use Rattle.pef_engine.specs.declared.engine.Engine.{Engine}
 use Rattle.pef_engine.specs.declared.script.Script.{Script}
 use Rattle.pef_engine.specs.Rules.{Rules}
 use Rattle.pef_engine.specs.MachineView.{MachineView, Agrees}
-use Rattle.pef_engine.specs.Lines.{LeavesPrefix}
+use Rattle.pef_engine.specs.CrashFree.{LeavesPrefix}
 use Rattle.pef_engine.specs.Engine.{Holds}
 use Rattle.script_run.specs.declared.stop.Stop.{Stop}
 use Rattle.script_run.specs.declared.stop.Stop.TheVariants.{Unformatted, Line, Unfinished, Input, Disk, Output, Full, Memory}
@@ -24,7 +24,8 @@ use Rattle.script_run.specs.declared.course.Course.TheVariants.{Over, GoesOn, Be
 use Rattle.pef_engine.specs.Scripts.{ScriptRules, IsScripted, Awaits, IsUnfinished, IsWithin}
 use Rattle.script_run.specs.Items.{is_same, IsOther, items_after, items_of_text, rest_of}
 use Rattle.script_run.specs.Run.{Runs, StopsFull, RunsGiven, IsTaken, Answers, IsIdle, MovesOn, IsReadyFor}
-use Rattle.script_run.specs.Top.{IsCourse, IsAnother, GivesCourse, GivesHead, TakesCourse, items_on, Plays}
+use Rattle.script_run.specs.Course.{IsCourse, IsAnother, GivesCourse, GivesHead, TakesCourse, items_on}
+use Rattle.script_run.specs.Playing.{Plays}
 use Rattle.script_run.proofs.RunLemmas.{runs_start, runs_compose, more_items, moments_after}
 use Rattle.script_run.proofs.RoomLemmas.{full_behind, comes_more}
 use Rattle.script_run.proofs.ScriptsLemmas.{script_keeps, script_one}
@@ -53,11 +54,11 @@ module _ {I M : Type 0} (rules : Rules I) (view : M → MachineView I) (says : L
   }
 
   -- the first of the items is not taken, or not settled
-  pub first_fails : (items rest all : List I) (bad : Option ℕ) (start now : BoardView) (engine : Engine M I) (before after : Option (List ℕ)) (stop : Stop) → IsFault stop → LeavesOnly start now (LeavesPrefix rules Z H start items)
+  pub first_fails : (items rest all : List I) (bad : Option ℕ) (start now : BoardView) (engine : Engine M I) (before after : Option (List ℕ)) (stop : Stop) → IsFault stop → LeavesOnly start now (LeavesPrefix rules Z H start.sent items)
       → (stop ≡ Full → StopsFull rules view says Z H items start now engine before after) → items ++ rest ≡ all → RunsGiven rules view says Z H all bad start now engine before after (Err stop)
   first_fails items rest all bad start now engine before after stop fault m full is =
       fault_given rules view says Z H all bad start now engine before after stop fault
-      (leaves_map start now (LeavesPrefix rules Z H start items) (LeavesPrefix rules Z H start all) (λ left p. subst (λ i. LeavesPrefix rules Z H start i left) is (more_items rules view says Z H start items rest left p)) m)
+      (leaves_map start now (LeavesPrefix rules Z H start.sent items) (LeavesPrefix rules Z H start.sent all) (λ left p. subst (λ i. LeavesPrefix rules Z H start.sent i left) is (more_items rules view says Z H start items rest left p)) m)
       (λ e. full_more items rest all start now engine before after (full e) is)
 
   -- what is run behind some items
@@ -251,10 +252,10 @@ module _ {I M : Type 0} (rules : Rules I) (view : M → MachineView I) (says : L
       never None other = other
       never (Some s) other = other
 
-  start_moments : (items : List I) → LeavesOnly start start (LeavesPrefix rules Z H start items)
+  start_moments : (items : List I) → LeavesOnly start start (LeavesPrefix rules Z H start.sent items)
   start_moments items =
       let r = runs_start rules view says Z H start engine written sound tells holds in
-      leaves_map start start (LeavesPrefix rules Z H start []) (LeavesPrefix rules Z H start items) (λ left p. more_items rules view says Z H start [] items left p) r.moments
+      leaves_map start start (LeavesPrefix rules Z H start.sent []) (LeavesPrefix rules Z H start.sent items) (λ left p. more_items rules view says Z H start [] items left p) r.moments
 
   -- another script is unfinished
   pub plays_other : (said : Said) → said_of text ≡ Some said → (id count : ℕ) → IsAnother (scripts.script_of H) said.id said.count id count → Plays rules view says scripts Z H text start start engine written written (Err (Unfinished id count))

@@ -13,7 +13,8 @@ use Rattle.pef_engine.specs.declared.engine.Engine.{Engine}
 use Rattle.pef_engine.specs.Rules.{Rules}
 use Rattle.pef_engine.specs.MachineView.{MachineView, IsOver}
 use Rattle.pef_engine.specs.Engine.{Holds, HasRoomForEntry, HasRoomForOutcome}
-use Rattle.script_run.specs.Run.{Runs, StopsFull, HasNoRoomBehind, IsTooMuch, ComesNext}
+use Rattle.script_run.specs.Run.{Runs, StopsFull, ComesNext}
+use Rattle.script_run.specs.Room.{HasNoRoomBehind, IsTooMuch}
 use Rattle.script_run.proofs.RunLemmas.{runs_start, start_entries, runs_compose, compose_entries}
 
 module _ {I M : Type 0} (rules : Rules I) (view : M → MachineView I) (Z : List ℕ) (H : List (Entry I)) (now : BoardView) (engine : Engine M I) (holds : Holds rules view Z H now engine) where

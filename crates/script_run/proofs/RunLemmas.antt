@@ -4,20 +4,20 @@ use Rattle.std.proofs.lemmas.List.{append-nil, map-append}
 use Rattle.board_core.specs.declared.step.Step.{Step}
 use Rattle.board_core.specs.declared.step.Told.{Told}
 use Rattle.board_core.specs.declared.step.Sent.{Sent}
-use Rattle.board_core.specs.Board.{BoardView, Left, IsSound, LeavesOnly, steps_of, tolds_of}
+use Rattle.board_core.specs.Board.{BoardView, CrashState, IsSound, LeavesOnly, steps_of, tolds_of}
 use Rattle.board_core.specs.Source.{Appends}
 use Rattle.pef_engine.specs.declared.entry.Entry.{Entry}
 use Rattle.pef_engine.specs.declared.entry.Entry.TheVariants.{Item, Outcome}
 use Rattle.pef_engine.specs.declared.engine.Engine.{Engine}
 use Rattle.pef_engine.specs.Rules.{Rules, LawfulFrom, Lawful, Allowed}
 use Rattle.pef_engine.specs.MachineView.{MachineView, Agrees}
-use Rattle.pef_engine.specs.Lines.{LeavesPrefix, prescribed, option_list, entry_items, entry_tolds, items_of}
+use Rattle.pef_engine.specs.CrashFree.{LeavesPrefix, prescribed, option_list, entry_items, entry_tolds, items_of}
 use Rattle.pef_engine.specs.Engine.{Holds, Settled}
 use Rattle.script_run.specs.Report.{report_from}
 use Rattle.script_run.specs.Run.{Runs}
-use Rattle.pef_engine.proofs.OnLine.{prescribed-append}
+use Rattle.pef_engine.proofs.Prefixes.{prescribed-append}
 use Rattle.pef_engine.proofs.Stored.{images_stand, nothing_moments}
-use Rattle.pef_engine.proofs.Compose.{leaves_behind, leaves_compose}
+use Rattle.pef_engine.proofs.Compose.{lawful_compose, leaves_behind, leaves_compose}
 
 pub entry_items-append : {I : Type 0} (K L : List (Entry I)) → entry_items (K ++ L) ≡ entry_items K ++ entry_items L
 entry_items-append [] L = refl
@@ -52,10 +52,6 @@ appends_ok octets None None (Ok t) appends = λ o is. absurd (cc is)
 appends_ok octets None None (Err e) appends = tt
 
 module _ {I M : Type 0} (rules : Rules I) (view : M → MachineView I) (line : List ℕ → List (Entry I) → Entry I → List ℕ) (Z : List ℕ) where
-  lawful_compose : (H K L : List (Entry I)) → LawfulFrom rules Z H K → LawfulFrom rules Z (H ++ K) L → LawfulFrom rules Z H (K ++ L)
-  lawful_compose H [] L first second = subst (λ h. LawfulFrom rules Z h L) (append-nil H) second
-  lawful_compose H (e ∷ K) L first second = (first.0, lawful_compose (H ++ e ∷ []) K L first.1 (subst (λ h. LawfulFrom rules Z h L) (sym (append_assoc H (e ∷ []) K)) second))
-
   report-append : (H K L : List (Entry I)) → report_from line Z H (K ++ L) ≡ report_from line Z H K ++ report_from line Z (H ++ K) L
   report-append H [] L = ap (λ h. report_from line Z h L) (sym (append-nil H))
   report-append H (e ∷ K) L =
@@ -78,16 +74,16 @@ module _ {I M : Type 0} (rules : Rules I) (view : M → MachineView I) (line : L
   }
 
   -- a prefix of a run without a crash is one of a run with more items
-  pub more_items : (H : List (Entry I)) (start : BoardView) (items more : List I) (left : Left) → LeavesPrefix rules Z H start items left → LeavesPrefix rules Z H start (items ++ more) left
+  pub more_items : (H : List (Entry I)) (start : BoardView) (items more : List I) (left : CrashState) → LeavesPrefix rules Z H start.sent items left → LeavesPrefix rules Z H start.sent (items ++ more) left
   more_items H start items more left here =
       leaves_behind rules Z H [] start start [] (items ++ more) items more left tt refl (sym (append-nil (steps_of start.sent))) (sym (append-nil (tolds_of start.sent)))
-      (ap (prescribed rules Z) (append-nil H) ∙ sym (append-nil (prescribed rules Z H))) (subst (λ h. LeavesPrefix rules Z h start items left) (sym (append-nil H)) here)
+      (ap (prescribed rules Z) (append-nil H) ∙ sym (append-nil (prescribed rules Z H))) (subst (λ h. LeavesPrefix rules Z h start.sent items left) (sym (append-nil H)) here)
 
   -- the moments of one call more
   pub moments_behind : (H : List (Entry I)) (items more : List I) (start now new : BoardView) (engine : Engine M I) (before after : Option (List ℕ)) (p : Runs rules view line Z H items start now engine before after)
-      → LeavesOnly now new (LeavesPrefix rules Z (H ++ p.entries) now more) → LeavesOnly start new (LeavesPrefix rules Z H start (items ++ more))
+      → LeavesOnly now new (LeavesPrefix rules Z (H ++ p.entries) now.sent more) → LeavesOnly start new (LeavesPrefix rules Z H start.sent (items ++ more))
   moments_behind H items more start now new engine before after p later =
-      leaves_compose rules Z start now new (LeavesPrefix rules Z H start (items ++ more)) (LeavesPrefix rules Z (H ++ p.entries) now more)
+      leaves_compose rules Z start now new (LeavesPrefix rules Z H start.sent (items ++ more)) (LeavesPrefix rules Z (H ++ p.entries) now.sent more)
       (record {
         later = p.moments.later;
         each = λ left since. more_items H start items more left (p.moments.each left since);
@@ -102,7 +98,7 @@ module _ {I M : Type 0} (rules : Rules I) (view : M → MachineView I) (line : L
       → Runs rules view line Z (H ++ p.entries) more now new next two three → Runs rules view line Z H (items ++ more) start new next one three
   runs_compose H items more start now new engine next one two three p q = record {
     entries = p.entries ++ q.entries;
-    lawful = lawful_compose H p.entries q.entries p.lawful q.lawful;
+    lawful = lawful_compose rules Z H p.entries q.entries p.lawful q.lawful;
     taken = entry_items-append p.entries q.entries ∙ ap (λ l. l ++ entry_items q.entries) p.taken ∙ ap (λ l. items ++ l) q.taken;
     holds = subst (λ h. Holds rules view Z h new next) (append_assoc H p.entries q.entries) q.holds;
     steps = p.steps ++ q.steps;
@@ -116,7 +112,7 @@ module _ {I M : Type 0} (rules : Rules I) (view : M → MachineView I) (line : L
 
   -- one outcome is stored and said
   pub one_outcome : (H : List (Entry I)) (now new : BoardView) (next : Engine M I) (before after : Option (List ℕ)) (told : Told) (engine : Engine M I) → Settled rules view Z H now new next (Some told)
-      → LeavesOnly now new (LeavesPrefix rules Z H now []) → ((old : List ℕ) → before ≡ Some old → after ≡ Some (old ++ line Z H (Outcome told))) → Runs rules view line Z H [] now new next before after
+      → LeavesOnly now new (LeavesPrefix rules Z H now.sent []) → ((old : List ℕ) → before ≡ Some old → after ≡ Some (old ++ line Z H (Outcome told))) → Runs rules view line Z H [] now new next before after
   one_outcome H now new next before after told engine settled moments said =
       let one : Sent = record { step = settled.0; told = told } in record {
         entries = Outcome told ∷ [];
@@ -132,7 +128,7 @@ module _ {I M : Type 0} (rules : Rules I) (view : M → MachineView I) (line : L
       }
 
   -- nothing is due
-  pub one_none : (H : List (Entry I)) (now new : BoardView) (next : Engine M I) (written : Option (List ℕ)) → Settled rules view Z H now new next None → LeavesOnly now new (LeavesPrefix rules Z H now []) → Runs rules view line Z H [] now new next written written
+  pub one_none : (H : List (Entry I)) (now new : BoardView) (next : Engine M I) (written : Option (List ℕ)) → Settled rules view Z H now new next None → LeavesOnly now new (LeavesPrefix rules Z H now.sent []) → Runs rules view line Z H [] now new next written written
   one_none H now new next written settled moments = record {
     entries = [];
     lawful = tt;
@@ -148,7 +144,7 @@ module _ {I M : Type 0} (rules : Rules I) (view : M → MachineView I) (line : L
 
   -- one item is stored and said
   pub one_item : (H : List (Entry I)) (item : I) (now new : BoardView) (next : Engine M I) (before after : Option (List ℕ)) → Allowed rules Z H (Item item) → Holds rules view Z (H ++ Item item ∷ []) new next → new.sent ≡ now.sent
-      → LeavesOnly now new (LeavesPrefix rules Z H now (item ∷ [])) → ((old : List ℕ) → before ≡ Some old → after ≡ Some (old ++ line Z H (Item item))) → Runs rules view line Z H (item ∷ []) now new next before after
+      → LeavesOnly now new (LeavesPrefix rules Z H now.sent (item ∷ [])) → ((old : List ℕ) → before ≡ Some old → after ≡ Some (old ++ line Z H (Item item))) → Runs rules view line Z H (item ∷ []) now new next before after
   one_item H item now new next before after allowed holds sent moments said = record {
     entries = Item item ∷ [];
     lawful = (allowed, tt);
@@ -173,19 +169,19 @@ module _ {I M : Type 0} (rules : Rules I) (view : M → MachineView I) (line : L
 
   -- the moments of a run are those of one with more items
   pub moments_of : (H : List (Entry I)) (items more all : List I) (start now : BoardView) (engine : Engine M I) (before after : Option (List ℕ)) → Runs rules view line Z H items start now engine before after → items ++ more ≡ all
-      → LeavesOnly start now (LeavesPrefix rules Z H start all)
+      → LeavesOnly start now (LeavesPrefix rules Z H start.sent all)
   moments_of H items more all start now engine before after p is = record {
     later = p.moments.later;
-    each = λ left since. subst (λ i. LeavesPrefix rules Z H start i left) is (more_items H start items more left (p.moments.each left since));
-    before = λ t left le since. ⊎_elim inl (λ q. inr (subst (λ i. LeavesPrefix rules Z H start i left) is (more_items H start items more left q))) (p.moments.before t left le since);
+    each = λ left since. subst (λ i. LeavesPrefix rules Z H start.sent i left) is (more_items H start items more left (p.moments.each left since));
+    before = λ t left le since. ⊎_elim inl (λ q. inr (subst (λ i. LeavesPrefix rules Z H start.sent i left) is (more_items H start items more left q))) (p.moments.before t left le since);
   }
 
   pub moments_after : (H : List (Entry I)) (items more rest all : List I) (start now new : BoardView) (engine : Engine M I) (before after : Option (List ℕ)) (p : Runs rules view line Z H items start now engine before after)
-      → LeavesOnly now new (LeavesPrefix rules Z (H ++ p.entries) now more) → items ++ (more ++ rest) ≡ all → LeavesOnly start new (LeavesPrefix rules Z H start all)
+      → LeavesOnly now new (LeavesPrefix rules Z (H ++ p.entries) now.sent more) → items ++ (more ++ rest) ≡ all → LeavesOnly start new (LeavesPrefix rules Z H start.sent all)
   moments_after H items more rest all start now new engine before after p later is =
       let m = moments_behind H items more start now new engine before after p later in
       let e : (items ++ more) ++ rest ≡ all = append_assoc items more rest ∙ is in record {
         later = m.later;
-        each = λ left since. subst (λ i. LeavesPrefix rules Z H start i left) e (more_items H start (items ++ more) rest left (m.each left since));
-        before = λ t left le since. ⊎_elim inl (λ q. inr (subst (λ i. LeavesPrefix rules Z H start i left) e (more_items H start (items ++ more) rest left q))) (m.before t left le since);
+        each = λ left since. subst (λ i. LeavesPrefix rules Z H start.sent i left) e (more_items H start (items ++ more) rest left (m.each left since));
+        before = λ t left le since. ⊎_elim inl (λ q. inr (subst (λ i. LeavesPrefix rules Z H start.sent i left) e (more_items H start (items ++ more) rest left q))) (m.before t left le since);
       }

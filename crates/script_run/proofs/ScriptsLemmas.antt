@@ -6,7 +6,7 @@ use Rattle.pef_engine.specs.declared.entry.Entry.TheVariants.{Item, Outcome}
 use Rattle.pef_engine.specs.declared.script.Script.{Script}
 use Rattle.pef_engine.specs.Rules.{Rules, Lawful, Allowed}
 use Rattle.pef_engine.specs.MachineView.{MachineView, Agrees}
-use Rattle.pef_engine.specs.Lines.{entry_items}
+use Rattle.pef_engine.specs.CrashFree.{entry_items}
 use Rattle.pef_engine.specs.Scripts.{ScriptRules, IsScripted, Awaits, one_taken}
 use Rattle.script_run.specs.Run.{Moved, MovesOn, IsReadyFor}
 

@@ -2,7 +2,7 @@
 use Rattle.std.proofs.Common.{◌≡◌, ◌⊎◌, inl, inr, ⊎_elim, ℕ, zero, suc, ◌+◌, ◌-◌, ◌<◌, ◌≤◌, List, [], ◌∷◌, ◌++◌, length, map, drop, Option, Some, None, IsTrue, refl, sym, ◌∙◌, ap, subst, arith, append_assoc, length-append, Result, Ok, Err, OnOk, IfOk, Bool, true, false, if◌then◌else◌, nat_le}
 use Rattle.std.proofs.lemmas.List.{append-nil}
 use Rattle.std.specs.Prelude.{IsErrOf}
-use Rattle.board_core.specs.Board.{BoardView, Left, IsSound, LeavesOnly, steps_of, tolds_of}
+use Rattle.board_core.specs.Board.{BoardView, CrashState, IsSound, LeavesOnly, steps_of, tolds_of}
 use Rattle.script_text.specs.Lines.{lines_of}
 use Rattle.script_text.specs.Reading.{HasLeft}
 use Rattle.script_text.specs.Script.{Given, given, given_by, give_event, bad_at, form_of_line, HasNoForm, GivesForm}
@@ -12,7 +12,7 @@ use Rattle.pef_engine.specs.declared.entry.Entry.{Entry}
 use Rattle.pef_engine.specs.declared.engine.Engine.{Engine}
 use Rattle.pef_engine.specs.Rules.{Rules}
 use Rattle.pef_engine.specs.MachineView.{MachineView}
-use Rattle.pef_engine.specs.Lines.{LeavesPrefix}
+use Rattle.pef_engine.specs.CrashFree.{LeavesPrefix}
 use Rattle.pef_engine.specs.Engine.{Holds}
 use Rattle.script_run.specs.declared.stop.Stop.{Stop}
 use Rattle.script_run.specs.declared.stop.Stop.TheVariants.{Unformatted, Line, Unfinished, Input, Disk, Output, Full, Memory}
@@ -89,7 +89,7 @@ step_fault Unformatted step = absurd step
 
 -- a fault, wherever it comes
 pub fault_given : {I M : Type 0} (rules : Rules I) (view : M → MachineView I) (says : List ℕ → List (Entry I) → Entry I → List ℕ) (Z : List ℕ) (H : List (Entry I)) (all : List I) (bad : Option ℕ) (start now : BoardView) (engine : Engine M I) (before after : Option (List ℕ)) (stop : Stop) → IsFault stop
-    → LeavesOnly start now (LeavesPrefix rules Z H start all) → (stop ≡ Full → StopsFull rules view says Z H all start now engine before after) → RunsGiven rules view says Z H all bad start now engine before after (Err stop)
+    → LeavesOnly start now (LeavesPrefix rules Z H start.sent all) → (stop ≡ Full → StopsFull rules view says Z H all start now engine before after) → RunsGiven rules view says Z H all bad start now engine before after (Err stop)
 fault_given rules view says Z H all bad start now engine before after Input fault m full = record { answers = tt; number = tt; moments = m; runs = λ h. absurd h; idle = tt; full = λ err. absurd (cc err) }
 fault_given rules view says Z H all bad start now engine before after Disk fault m full = record { answers = tt; number = tt; moments = m; runs = λ h. absurd h; idle = tt; full = λ err. absurd (cc err) }
 fault_given rules view says Z H all bad start now engine before after Output fault m full = record { answers = tt; number = tt; moments = m; runs = λ h. absurd h; idle = tt; full = λ err. absurd (cc err) }
@@ -174,19 +174,19 @@ module _ {I M : Type 0} (rules : Rules I) (view : M → MachineView I) (says : L
         full = λ err. absurd (cc err);
       }
 
-  pub fault_text : (now : BoardView) (engine : Engine M I) (before after : Option (List ℕ)) (stop : Stop) → IsFault stop → LeavesOnly start now (LeavesPrefix rules Z H start all)
+  pub fault_text : (now : BoardView) (engine : Engine M I) (before after : Option (List ℕ)) (stop : Stop) → IsFault stop → LeavesOnly start now (LeavesPrefix rules Z H start.sent all)
       → (stop ≡ Full → StopsFull rules view says Z H all start now engine before after) → RunsGiven rules view says Z H all (given (lines_of text) count 2).bad start now engine before after (Err stop)
   fault_text now engine before after stop fault m full = fault_given rules view says Z H all (given (lines_of text) count 2).bad start now engine before after stop fault m full
 
   pub takes_moments : (now : BoardView) (engine : Engine M I) (before after : Option (List ℕ)) (held : List ℕ) (source : Option (List ℕ)) (skip left number items : ℕ)
-      → (t : Takes rules view says scripts Z H text count taken start now engine before after held source skip left number items) → LeavesOnly start now (LeavesPrefix rules Z H start all)
+      → (t : Takes rules view says scripts Z H text count taken start now engine before after held source skip left number items) → LeavesOnly start now (LeavesPrefix rules Z H start.sent all)
   takes_moments now engine before after held source skip left number items t =
       moments_of rules view says Z H t.so_far (rest_of scripts skip (given (lines_of t.rest) left number)) all start now engine before after t.runs t.split
 
   -- an event is not taken, or not settled
   pub event_fails : (now new : BoardView) (engine after_it : Engine M I) (one two three : Option (List ℕ)) (held next : List ℕ) (source later : Option (List ℕ)) (skip left number items : ℕ) (octets : List ℕ) (stop : Stop)
       → (t : Takes rules view says scripts Z H text count taken start now engine one two held source skip left number items) → GivesForm t.rest next later (Some (EventForm octets)) → 0 < left → skip ≡ 0 → IsStepStop stop
-      → LeavesOnly now new (LeavesPrefix rules Z (H ++ t.runs.entries) now (scripts.event octets ∷ []))
+      → LeavesOnly now new (LeavesPrefix rules Z (H ++ t.runs.entries) now.sent (scripts.event octets ∷ []))
       → (stop ≡ Full → StopsFull rules view says Z (H ++ t.runs.entries) (scripts.event octets ∷ []) now new after_it two three)
       → RunsGiven rules view says Z H all (given (lines_of text) count 2).bad start new after_it one three (Err stop)
   event_fails now new engine after_it one two three held next source later skip left number items octets stop t gives more none step m full =
@@ -220,7 +220,7 @@ module _ {I M : Type 0} (rules : Rules I) (view : M → MachineView I) (says : L
   -- the closing item is not taken, or not settled
   pub close_fails : (now new : BoardView) (engine after_it : Engine M I) (one two three : Option (List ℕ)) (held next : List ℕ) (source later : Option (List ℕ)) (skip left number items : ℕ) (stop : Stop)
       → (t : Takes rules view says scripts Z H text count taken start now engine one two held source skip left number items) → GivesForm t.rest next later (Some End) → left ≡ 0 → IsStepStop stop
-      → LeavesOnly now new (LeavesPrefix rules Z (H ++ t.runs.entries) now (scripts.closing ∷ []))
+      → LeavesOnly now new (LeavesPrefix rules Z (H ++ t.runs.entries) now.sent (scripts.closing ∷ []))
       → (stop ≡ Full → StopsFull rules view says Z (H ++ t.runs.entries) (scripts.closing ∷ []) now new after_it two three)
       → RunsGiven rules view says Z H all (given (lines_of text) count 2).bad start new after_it one three (Err stop)
   close_fails now new engine after_it one two three held next source later skip left number items stop t gives none step m full =

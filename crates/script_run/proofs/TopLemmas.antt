@@ -3,17 +3,17 @@ use Rattle.std.proofs.Common.{◌≡◌, ◌⊎◌, inl, inr, ⊎_elim, ℕ, ◌
 use Rattle.std.specs.Prelude.{IsErrOf}
 use Rattle.std.proofs.lemmas.List.{append-nil, append_cancel_left}
 use Rattle.board_core.specs.declared.step.Told.{Told}
-use Rattle.board_core.specs.Board.{BoardView, Left, LeftNow, IsSound, LeavesOnly, SyncsFirst, NeverSynced, steps_of, tolds_of}
+use Rattle.board_core.specs.Board.{Only, SyncsThen, BoardView, CrashState, LeftNow, IsSound, LeavesOnly, SyncsFirst, NeverSynced, steps_of, tolds_of}
 use Rattle.pef_journal.specs.Image as image
 use Rattle.pef_engine.specs.declared.entry.Entry.{Entry}
 use Rattle.pef_engine.specs.declared.entry.Entry.TheVariants.{Item, Outcome}
 use Rattle.pef_engine.specs.declared.engine.Engine.{Engine}
 use Rattle.pef_engine.specs.Rules.{Rules, LawfulFrom, Lawful, Stands}
 use Rattle.pef_engine.specs.MachineView.{MachineView}
-use Rattle.pef_engine.specs.Lines.{line, LeavesPrefix, entry_items, entry_tolds, IsPrefixOf}
+use Rattle.pef_engine.specs.CrashFree.{crash_free_run, LeavesPrefix, entry_items, entry_tolds, IsPrefixOf}
 use Rattle.pef_engine.specs.Engine.{AfterOpen}
-use Rattle.pef_engine.proofs.Compose.{line_goes_on, line_more}
-use Rattle.pef_engine.proofs.OnLine.{line_item, line_outcome}
+use Rattle.pef_engine.proofs.Compose.{run_goes_on, run_more}
+use Rattle.pef_engine.proofs.Prefixes.{run_item, run_outcome}
 use Rattle.pef_engine.proofs.Stored.{images_stand}
 use Rattle.pef_engine.proofs.Moments.{leaves_start}
 use Rattle.script_text.specs.Script.{said_of, bad_line}
@@ -23,12 +23,13 @@ use Rattle.pef_engine.specs.Scripts.{ScriptRules}
 use Rattle.script_run.specs.Items.{IsOther, items_of_text}
 use Rattle.script_run.specs.Report.{report_from}
 use Rattle.script_run.specs.Run.{Runs, StopsFull, ComesNext, RunsGiven, Answers}
-use Rattle.script_run.specs.Top.{SyncsThen, RunKeeps, RunTakes, ReturnLeft, IsFullAt, IsReported, AnswersOther, Plays, Performs, IsOpeningStop, AnswersNone}
+use Rattle.script_run.specs.Top.{RunKeeps, RunTakes, ReturnLeft, IsFullAt}
+use Rattle.script_run.specs.Playing.{IsReported, AnswersOther, Plays, Performs, IsOpeningStop, AnswersNone}
 use Rattle.script_run.proofs.RunLemmas.{more_items}
 use Rattle.script_run.proofs.PlayLemmas.{none_of_other}
 
 -- a crash in what comes behind the opening
-pub syncs_then : (old mid new : BoardView) (P Q R : Left → Type 0) → SyncsFirst old mid P → LeavesOnly mid new Q → ((left : Left) → P left → R left) → ((left : Left) → Q left → R left) → SyncsThen old new R
+pub syncs_then : (old mid new : BoardView) (P Q R : CrashState → Type 0) → SyncsFirst old mid P → LeavesOnly mid new Q → ((left : CrashState) → P left → R left) → ((left : CrashState) → Q left → R left) → SyncsThen old new R
 syncs_then old mid new P Q R first later p q = record {
   synced = first.synced;
   after_start = first.after_start;
@@ -38,40 +39,49 @@ syncs_then old mid new P Q R first later p q = record {
 }
 
 module _ {I M : Type 0} (rules : Rules I) (view : M → MachineView I) (says : List ℕ → List (Entry I) → Entry I → List ℕ) (Z : List ℕ) (H : List (Entry I)) where
-  same_start : (items : List I) (old mid : BoardView) (left : Left) → mid.sent ≡ old.sent → LeavesPrefix rules Z H mid items left → LeavesPrefix rules Z H old items left
-  same_start items old mid left sent here = record {
-    steps = here.steps;
-    tolds = here.tolds;
-    issued = here.issued ∙ ap (λ s. steps_of s ++ here.steps) sent;
-    told = here.told ∙ ap (λ s. tolds_of s ++ here.tolds) sent;
-    entries = here.entries;
-    on_line = here.on_line;
-    stands = here.stands;
-    kept = here.kept;
-    only = here.only;
-  }
+  same_start : (items : List I) (old mid : BoardView) (left : CrashState) → mid.sent ≡ old.sent → LeavesPrefix rules Z H mid.sent items left → LeavesPrefix rules Z H old.sent items left
+  same_start items old mid left sent here = subst (λ s. LeavesPrefix rules Z H s items left) sent here
+
+  -- from a file that is all on the disk, a crash before the first sync leaves no further entry
+  at_start : (items : List I) (old : BoardView) → Stands rules Z H old.octets → Only old.octets old.images → (c : CrashState) → LeftNow old c → LeavesPrefix rules Z H old.sent items c
+  at_start items old stands only c now = leaves_start rules Z H old items c (record { issued = now.issued; told = now.told }) (subst (Stands rules Z H) (sym (only c.image now.image)) stands)
+
+  in_whole_call : (items : List I) (old new : BoardView) → Stands rules Z H old.octets → (NeverSynced old new ⊎ SyncsThen old new (LeavesPrefix rules Z H old.sent items))
+      → Only old.octets old.images → (c : CrashState) → new.left_since old.moment c → LeavesPrefix rules Z H old.sent items c
+  in_whole_call items old new stands (inl never) only c since = at_start items old stands only c (never.until c since)
+  in_whole_call items old new stands (inr synced) only c since = ⊎_elim (at_start items old stands only c) (λ p. p) (synced.until c since)
 
   -- the headline, from the opening and the calls after it
-  pub run_keeps : (items : List I) (old mid new : BoardView) → SyncsFirst old mid (LeavesPrefix rules Z H old []) → mid.sent ≡ old.sent → LeavesOnly mid new (LeavesPrefix rules Z H mid items) → IsSound new → IsTrue new.tells
+  pub run_keeps : (items : List I) (old mid new : BoardView) → Stands rules Z H old.octets → SyncsFirst old mid (LeavesPrefix rules Z H old.sent []) → mid.sent ≡ old.sent → LeavesOnly mid new (LeavesPrefix rules Z H mid.sent items) → IsSound new → IsTrue new.tells
       → RunKeeps rules Z H items old new
-  run_keeps items old mid new first sent later sound tells = record {
-    moments = inr (syncs_then old mid new (LeavesPrefix rules Z H old []) (LeavesPrefix rules Z H mid items) (LeavesPrefix rules Z H old items) first later
-        (λ left p. more_items rules view says Z H old [] items left p) (λ left q. same_start items old mid left sent q));
+  run_keeps items old mid new stands first sent later sound tells = record {
+    moments = inr moments_then;
+    whole_call = in_whole_call items old new stands (inr moments_then);
     returned = same_start items old mid (ReturnLeft new) sent (later.each (ReturnLeft new)
         (sound.counts_now tells mid.moment (ReturnLeft new) later.later (record { image = sound.is_image tells; issued = refl; told = refl })));
   }
+    where
+      moments_then : SyncsThen old new (LeavesPrefix rules Z H old.sent items)
+      moments_then = syncs_then old mid new (LeavesPrefix rules Z H old.sent []) (LeavesPrefix rules Z H mid.sent items) (LeavesPrefix rules Z H old.sent items) first later
+        (λ left p. more_items rules view says Z H old [] items left p) (λ left q. same_start items old mid left sent q)
 
-  -- the line of a run that took all items and left nothing pending is its entries
-  pub line_is : (items : List I) (K : List (Entry I)) → LawfulFrom rules Z H K → entry_items K ≡ items → line rules Z H items (entry_tolds K) ≡ K
-  line_is items K lawful taken =
-      ap (λ i. line rules Z H i (entry_tolds K)) (sym taken ∙ sym (append-nil (entry_items K))) ∙ ap (λ t. line rules Z H (entry_items K ++ []) t) (sym (append-nil (entry_tolds K)))
-      ∙ line_goes_on rules Z H K [] [] lawful ∙ append-nil K
+  -- the run without a crash of one that took all items and left nothing pending is its entries
+  pub run_is : (items : List I) (K : List (Entry I)) → LawfulFrom rules Z H K → entry_items K ≡ items → crash_free_run rules Z H items (entry_tolds K) ≡ K
+  run_is items K lawful taken =
+      ap (λ i. crash_free_run rules Z H i (entry_tolds K)) (sym taken ∙ sym (append-nil (entry_items K))) ∙ ap (λ t. crash_free_run rules Z H (entry_items K ++ []) t) (sym (append-nil (entry_tolds K)))
+      ∙ run_goes_on rules Z H K [] [] lawful ∙ append-nil K
 
   -- what an opening that fails leaves
-  pub open_keeps : (items : List I) (old new : BoardView) → IsSound new → IsTrue new.tells → new.sent ≡ old.sent → new.octets ≡ old.octets → Stands rules Z H old.octets → (NeverSynced old new ⊎ SyncsFirst old new (LeavesPrefix rules Z H old []))
+  pub open_keeps : (items : List I) (old new : BoardView) → IsSound new → IsTrue new.tells → new.sent ≡ old.sent → new.octets ≡ old.octets → Stands rules Z H old.octets → (NeverSynced old new ⊎ SyncsFirst old new (LeavesPrefix rules Z H old.sent []))
       → RunKeeps rules Z H items old new
   open_keeps items old new sound tells sent octets stands moments = record {
-    moments = ⊎_elim inl
+    moments = along;
+    whole_call = in_whole_call items old new stands along;
+    returned = leaves_start rules Z H old items (ReturnLeft new) (record { issued = ap steps_of sent; told = ap tolds_of sent }) (subst (Stands rules Z H) (sym octets) stands);
+  }
+    where
+      along : NeverSynced old new ⊎ SyncsThen old new (LeavesPrefix rules Z H old.sent items)
+      along = ⊎_elim inl
         (λ s. inr (record {
           synced = s.synced;
           after_start = s.after_start;
@@ -79,45 +89,43 @@ module _ {I M : Type 0} (rules : Rules I) (view : M → MachineView I) (says : L
           until = λ c since. ⊎_elim inl (λ later. inr (more_items rules view says Z H old [] items c (s.since c later))) (s.until c since);
           since = λ c since. more_items rules view says Z H old [] items c (s.since c since);
         }))
-        moments;
-    returned = leaves_start rules Z H old items (ReturnLeft new) (record { issued = ap steps_of sent; told = ap tolds_of sent }) (subst (Stands rules Z H) (sym octets) stands);
-  }
+        moments
 
   -- all items were taken, and reported
   pub run_takes : (items : List I) (old mid new : BoardView) (engine : Engine M I) (before after : Option (List ℕ)) → mid.sent ≡ old.sent → (r : Runs rules view says Z H items mid new engine before after) → RunTakes rules says Z H items old new before after []
   run_takes items old mid new engine before after sent r =
-      let is = line_is items r.entries r.lawful r.taken in record {
+      let is = run_is items r.entries r.lawful r.taken in record {
         tolds = entry_tolds r.entries;
         told = r.told ∙ ap (λ s. tolds_of s ++ entry_tolds r.entries) sent;
         taken = ap entry_items is ∙ r.taken;
         lasting = λ c now. subst (λ K. Stands rules Z (H ++ K) c) (sym is) (images_stand _ _ _ new engine.journal r.holds.stored c now);
-        written = λ text is_before. r.written text is_before ∙ ap (λ K. Some (text ++ K)) (ap (report_from says Z H) (sym is) ∙ sym (append-nil (report_from says Z H (line rules Z H items (entry_tolds r.entries)))));
+        written = λ text is_before. r.written text is_before ∙ ap (λ K. Some (text ++ K)) (ap (report_from says Z H) (sym is) ∙ sym (append-nil (report_from says Z H (crash_free_run rules Z H items (entry_tolds r.entries)))));
       }
 
   run_idle : (items : List I) (old mid new : BoardView) (engine : Engine M I) (before after : Option (List ℕ)) → mid.sent ≡ old.sent → (r : Runs rules view says Z H items mid new engine before after) → rules.pending Z (H ++ r.entries) ≡ None
-      → (tolds : List Told) → tolds_of new.sent ≡ tolds_of old.sent ++ tolds → rules.pending Z (H ++ line rules Z H items tolds) ≡ None
+      → (tolds : List Told) → tolds_of new.sent ≡ tolds_of old.sent ++ tolds → rules.pending Z (H ++ crash_free_run rules Z H items tolds) ≡ None
   run_idle items old mid new engine before after sent r idle tolds told =
       let all : tolds_of old.sent ++ tolds ≡ tolds_of old.sent ++ entry_tolds r.entries = sym told ∙ r.told ∙ ap (λ s. tolds_of s ++ entry_tolds r.entries) sent in
       let same : tolds ≡ entry_tolds r.entries = append_cancel_left (tolds_of old.sent) tolds (entry_tolds r.entries) all in
-      ap (λ t. rules.pending Z (H ++ line rules Z H items t)) same ∙ ap (λ K. rules.pending Z (H ++ K)) (line_is items r.entries r.lawful r.taken) ∙ idle
+      ap (λ t. rules.pending Z (H ++ crash_free_run rules Z H items t)) same ∙ ap (λ K. rules.pending Z (H ++ K)) (run_is items r.entries r.lawful r.taken) ∙ idle
 
   -- what comes next is on the run without a crash
-  on_line : (G : List (Entry I)) (items : List I) (e : Entry I) → ComesNext rules Z G items e → (more : List Told) × IsPrefixOf (e ∷ []) (line rules Z G items more)
-  on_line G items (Item item) comes = ([], subst (λ l. IsPrefixOf (Item item ∷ []) (line rules Z G l [])) (sym comes.2) (subst (λ l. IsPrefixOf l (line rules Z G (item ∷ comes.1) [])) (line_item rules Z G item comes.0) (line_more rules Z G (item ∷ []) comes.1 [])))
-  on_line G items (Outcome told) comes = (told ∷ [], subst (λ l. IsPrefixOf l (line rules Z G items (told ∷ []))) (line_outcome rules Z G comes.0 told comes.1) (line_more rules Z G [] items (told ∷ [])))
+  is_prefix : (G : List (Entry I)) (items : List I) (e : Entry I) → ComesNext rules Z G items e → (more : List Told) × IsPrefixOf (e ∷ []) (crash_free_run rules Z G items more)
+  is_prefix G items (Item item) comes = ([], subst (λ l. IsPrefixOf (Item item ∷ []) (crash_free_run rules Z G l [])) (sym comes.2) (subst (λ l. IsPrefixOf l (crash_free_run rules Z G (item ∷ comes.1) [])) (run_item rules Z G item comes.0) (run_more rules Z G (item ∷ []) comes.1 [])))
+  is_prefix G items (Outcome told) comes = (told ∷ [], subst (λ l. IsPrefixOf l (crash_free_run rules Z G items (told ∷ []))) (run_outcome rules Z G comes.0 told comes.1) (run_more rules Z G [] items (told ∷ [])))
 
   full_at : (items : List I) (old mid new : BoardView) (engine : Engine M I) (before after : Option (List ℕ)) → mid.sent ≡ old.sent → StopsFull rules view says Z H items mid new engine before after → IsFullAt rules view Z H items old new
   full_at items old mid new engine before after sent q =
       let K = q.runs.entries in
-      let next = on_line (H ++ K) q.more q.next q.comes in
-      let whole : line rules Z H items (entry_tolds K ++ next.0) ≡ K ++ line rules Z (H ++ K) q.more next.0 =
-      ap (λ i. line rules Z H i (entry_tolds K ++ next.0)) (sym q.split ∙ ap (λ i. i ++ q.more) (sym q.runs.taken)) ∙ line_goes_on rules Z H K q.more next.0 q.runs.lawful in record {
+      let next = is_prefix (H ++ K) q.more q.next q.comes in
+      let whole : crash_free_run rules Z H items (entry_tolds K ++ next.0) ≡ K ++ crash_free_run rules Z (H ++ K) q.more next.0 =
+      ap (λ i. crash_free_run rules Z H i (entry_tolds K ++ next.0)) (sym q.split ∙ ap (λ i. i ++ q.more) (sym q.runs.taken)) ∙ run_goes_on rules Z H K q.more next.0 q.runs.lawful in record {
         entries = K;
         next = q.next;
         tolds = entry_tolds K;
         told = q.runs.told ∙ ap (λ s. tolds_of s ++ entry_tolds K) sent;
         more = next.0;
-        on_line = (next.1.0, append_assoc K (q.next ∷ []) next.1.0 ∙ ap (λ l. K ++ l) next.1.1 ∙ sym whole);
+        is_prefix = (next.1.0, append_assoc K (q.next ∷ []) next.1.0 ∙ ap (λ l. K ++ l) next.1.1 ∙ sym whole);
         stands = subst (λ (l : List (List ℕ)). image.Stands rules.kind Z l new.octets) (append-nil (map rules.encode (H ++ K))) q.runs.holds.stored.at.stands;
         too_much = q.too_much;
       }
@@ -136,13 +144,13 @@ module _ {I M : Type 0} (rules : Rules I) (view : M → MachineView I) (says : L
   performs_not new before Full keeps opening formatted over = record { keeps = keeps; takes = λ r. absurd r; idle = tt; number = tt; answers = λ not. tt; refuses = λ o. tt; other = λ id count e. absurd (cc e); full = λ e. inr (over refl) }
 
   -- the file is opened, and the script is run
-  module _ (mid new : BoardView) (engine : Engine M I) (before after : Option (List ℕ)) (first : SyncsFirst old mid (LeavesPrefix rules Z H old [])) (sent : mid.sent ≡ old.sent) (sound : IsSound new) (tells : IsTrue new.tells) where
+  module _ (mid new : BoardView) (engine : Engine M I) (before after : Option (List ℕ)) (stands : Stands rules Z H old.octets) (first : SyncsFirst old mid (LeavesPrefix rules Z H old.sent [])) (sent : mid.sent ≡ old.sent) (sound : IsSound new) (tells : IsTrue new.tells) where
     pub performs : (result : Result ℕ Stop) → Plays rules view says scripts Z H text mid new engine before after result → Performs rules view says scripts Z H text old new before after result
     performs (Ok n) plays =
         let not : IsOther (scripts.script_of H) (said_of text) → ⊥ = λ o. (plays.refuses o).0 in
         let q = plays.runs not in
         let r = q.runs tt in record {
-          keeps = run_keeps rules view says Z H (items_of_text scripts text H) old mid new first sent plays.moments sound tells;
+          keeps = run_keeps rules view says Z H (items_of_text scripts text H) old mid new stands first sent plays.moments sound tells;
           takes = λ t. run_takes rules view says Z H (items_of_text scripts text H) old mid new engine before after sent r;
           idle = run_idle rules view says Z H (items_of_text scripts text H) old mid new engine before after sent r (q.idle (H ++ r.entries) r.holds);
           number = q.number;
@@ -154,7 +162,7 @@ module _ {I M : Type 0} (rules : Rules I) (view : M → MachineView I) (says : L
     performs (Err (Line number)) plays =
         let not : IsOther (scripts.script_of H) (said_of text) → ⊥ = λ o. (plays.refuses o).0 in
         let r = (plays.runs not).runs tt in record {
-          keeps = run_keeps rules view says Z H (items_of_text scripts text H) old mid new first sent plays.moments sound tells;
+          keeps = run_keeps rules view says Z H (items_of_text scripts text H) old mid new stands first sent plays.moments sound tells;
           takes = λ t. run_takes rules view says Z H (items_of_text scripts text H) old mid new engine before after sent r;
           idle = tt;
           number = tt;
@@ -167,7 +175,7 @@ module _ {I M : Type 0} (rules : Rules I) (view : M → MachineView I) (says : L
         let o = plays.other id count refl in
         let none : [] ≡ items_of_text scripts text H = sym (none_of_other scripts (scripts.script_of H) (said_of text) o) in
         let r = subst (λ i. Runs rules view says Z H i mid new engine before after) none (plays.refuses o).1 in record {
-          keeps = run_keeps rules view says Z H (items_of_text scripts text H) old mid new first sent plays.moments sound tells;
+          keeps = run_keeps rules view says Z H (items_of_text scripts text H) old mid new stands first sent plays.moments sound tells;
           takes = λ t. run_takes rules view says Z H (items_of_text scripts text H) old mid new engine before after sent r;
           idle = tt;
           number = tt;
@@ -177,7 +185,7 @@ module _ {I M : Type 0} (rules : Rules I) (view : M → MachineView I) (says : L
           full = λ e. absurd (cc e);
         }
     performs (Err Unformatted) plays = record {
-      keeps = run_keeps rules view says Z H (items_of_text scripts text H) old mid new first sent plays.moments sound tells;
+      keeps = run_keeps rules view says Z H (items_of_text scripts text H) old mid new stands first sent plays.moments sound tells;
       takes = λ t. absurd t;
       idle = tt;
       number = tt;
@@ -187,7 +195,7 @@ module _ {I M : Type 0} (rules : Rules I) (view : M → MachineView I) (says : L
       full = λ e. absurd (cc e);
     }
     performs (Err Input) plays = record {
-      keeps = run_keeps rules view says Z H (items_of_text scripts text H) old mid new first sent plays.moments sound tells;
+      keeps = run_keeps rules view says Z H (items_of_text scripts text H) old mid new stands first sent plays.moments sound tells;
       takes = λ t. absurd t;
       idle = tt;
       number = tt;
@@ -197,7 +205,7 @@ module _ {I M : Type 0} (rules : Rules I) (view : M → MachineView I) (says : L
       full = λ e. absurd (cc e);
     }
     performs (Err Disk) plays = record {
-      keeps = run_keeps rules view says Z H (items_of_text scripts text H) old mid new first sent plays.moments sound tells;
+      keeps = run_keeps rules view says Z H (items_of_text scripts text H) old mid new stands first sent plays.moments sound tells;
       takes = λ t. absurd t;
       idle = tt;
       number = tt;
@@ -207,7 +215,7 @@ module _ {I M : Type 0} (rules : Rules I) (view : M → MachineView I) (says : L
       full = λ e. absurd (cc e);
     }
     performs (Err Output) plays = record {
-      keeps = run_keeps rules view says Z H (items_of_text scripts text H) old mid new first sent plays.moments sound tells;
+      keeps = run_keeps rules view says Z H (items_of_text scripts text H) old mid new stands first sent plays.moments sound tells;
       takes = λ t. absurd t;
       idle = tt;
       number = tt;
@@ -217,7 +225,7 @@ module _ {I M : Type 0} (rules : Rules I) (view : M → MachineView I) (says : L
       full = λ e. absurd (cc e);
     }
     performs (Err Memory) plays = record {
-      keeps = run_keeps rules view says Z H (items_of_text scripts text H) old mid new first sent plays.moments sound tells;
+      keeps = run_keeps rules view says Z H (items_of_text scripts text H) old mid new stands first sent plays.moments sound tells;
       takes = λ t. absurd t;
       idle = tt;
       number = tt;
@@ -227,7 +235,7 @@ module _ {I M : Type 0} (rules : Rules I) (view : M → MachineView I) (says : L
       full = λ e. absurd (cc e);
     }
     performs (Err Full) plays = record {
-      keeps = run_keeps rules view says Z H (items_of_text scripts text H) old mid new first sent plays.moments sound tells;
+      keeps = run_keeps rules view says Z H (items_of_text scripts text H) old mid new stands first sent plays.moments sound tells;
       takes = λ t. absurd t;
       idle = tt;
       number = tt;

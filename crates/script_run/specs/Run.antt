@@ -1,24 +1,23 @@
 -- What a run has done so far.
-use Rattle.std.specs.Prelude.{◌≡◌, ◌⊎◌, ⊤, ℕ, ◌+◌, ◌-◌, ◌<◌, ◌^◌, List, [], ◌∷◌, ◌++◌, length, map, Option, Some, None, IsTrue, Result, Ok, Err, IfOk, OnOk, IsErrOf}
+use Rattle.std.specs.Prelude.{◌≡◌, ⊤, ℕ, List, ◌∷◌, ◌++◌, length, Option, Some, None, Result, Ok, Err, IsErrOf, IfOk, OnOk}
 use Rattle.board_core.specs.declared.step.Step.{Step}
-use Rattle.board_core.specs.declared.step.Told.{Told}
 use Rattle.board_core.specs.Board.{BoardView, LeavesOnly, steps_of, tolds_of}
-use Rattle.pef_journal.specs.Image.{header, blocks}
 use Rattle.pef_engine.specs.declared.entry.Entry.{Entry}
-use Rattle.pef_engine.specs.declared.entry.Entry.TheVariants.{Item, Outcome}
 use Rattle.pef_engine.specs.declared.engine.Engine.{Engine}
-use Rattle.pef_engine.specs.Rules.{Rules, LawfulFrom, Lawful, IsOutcome}
-use Rattle.pef_engine.specs.MachineView.{MachineView, IsOver}
-use Rattle.pef_engine.specs.Lines.{LeavesPrefix, entry_items, entry_tolds, prescribed}
-use Rattle.pef_engine.specs.Engine.{Holds}
+use Rattle.pef_engine.specs.Rules.{Rules, Lawful, LawfulFrom}
+use Rattle.pef_engine.specs.MachineView.{MachineView}
+use Rattle.pef_engine.specs.CrashFree.{LeavesPrefix, entry_items, entry_tolds, prescribed}
 use Rattle.script_text.specs.Lines.{lines_of}
 use Rattle.script_text.specs.Reading.{HasLeft}
-use Rattle.script_text.specs.Script.{Given, given}
+use Rattle.script_text.specs.Script.{given}
 use Rattle.script_run.specs.declared.stop.Stop.{Stop}
 use Rattle.script_run.specs.declared.stop.Stop.TheVariants.{Unformatted, Line, Unfinished, Input, Disk, Output, Full, Memory}
 use Rattle.pef_engine.specs.Scripts.{ScriptRules, Awaits}
 use Rattle.script_run.specs.Items.{rest_of}
 use Rattle.script_run.specs.Report.{report_from}
+use Rattle.pef_engine.specs.declared.entry.Entry.TheVariants.{Item, Outcome}
+use Rattle.pef_engine.specs.Engine.{Holds}
+use Rattle.script_run.specs.Room.{IsTooMuch}
 
 -- Since start these items were taken and settled behind H, in the entries K: the steps issued are those prescribed, the sink took
 -- the report of K where it tells what was written, and a crash on the way leaves a prefix of the run without a crash.
@@ -31,7 +30,7 @@ pub record Runs {I M : Type 0} (rules : Rules I) (view : M → MachineView I) (l
   pub issued : steps_of now.sent ≡ steps_of start.sent ++ steps
   pub told : tolds_of now.sent ≡ tolds_of start.sent ++ entry_tolds entries
   pub prescribes : prescribed rules Z (H ++ entries) ≡ prescribed rules Z H ++ steps
-  pub moments : LeavesOnly start now (LeavesPrefix rules Z H start items)
+  pub moments : LeavesOnly start now (LeavesPrefix rules Z H start.sent items)
   pub written : (old : List ℕ) → before ≡ Some old → after ≡ Some (old ++ report_from line Z H entries)
 
 -- the machine shows a lawful history in which these items came behind H
@@ -44,14 +43,6 @@ pub record Moved {I : Type 0} (rules : Rules I) (new : MachineView I) (Z : List 
 -- whatever the board tells, the machine took these items
 abbrev pub MovesOn : {I : Type 0} → Rules I → MachineView I → MachineView I → List I → Type 0
 MovesOn {I} rules old new items = (Z : List ℕ) (H : List (Entry I)) → Lawful rules Z H → old.shows Z H → Moved rules new Z H items
-
--- with this entry behind H the file would pass 16,777,216 octets
-abbrev pub HasNoRoomBehind : {I : Type 0} → Rules I → List ℕ → List (Entry I) → Entry I → Type 0
-HasNoRoomBehind rules Z H e = 2 ^ 24 < length (header rules.kind Z ++ blocks (map rules.encode (H ++ e ∷ []))) + 1
-
--- the file has no room for this entry behind H, or the machine's own limit stands against it
-abbrev pub IsTooMuch : {I M : Type 0} → Rules I → (M → MachineView I) → List ℕ → List (Entry I) → Entry I → Type 0
-IsTooMuch {I} {M} rules view Z H e = HasNoRoomBehind rules Z H e ⊎ ((machine : M) × (view machine).shows Z H × IsOver (view machine) e)
 
 -- behind H this entry comes next, where these items are still to come: the outcome of the step that is due, or the first of the items
 abbrev pub ComesNext : {I : Type 0} → Rules I → List ℕ → List (Entry I) → List I → Entry I → Type 0
@@ -122,7 +113,7 @@ Answers bad (Err Memory) = ⊤
 pub record RunsGiven {I M : Type 0} (rules : Rules I) (view : M → MachineView I) (line : List ℕ → List (Entry I) → Entry I → List ℕ) (Z : List ℕ) (H : List (Entry I)) (items : List I) (bad : Option ℕ) (start now : BoardView) (engine : Engine M I) (before after : Option (List ℕ)) (result : Result ℕ Stop) : Type 0 where
   pub answers : Answers bad result
   pub number : IfOk result (λ n. n ≡ length items)
-  pub moments : LeavesOnly start now (LeavesPrefix rules Z H start items)
+  pub moments : LeavesOnly start now (LeavesPrefix rules Z H start.sent items)
   pub runs : IsTaken result → Runs rules view line Z H items start now engine before after
   pub idle : OnOk result (IsIdle rules view Z now engine)
   pub full : IsErrOf result Full → StopsFull rules view line Z H items start now engine before after

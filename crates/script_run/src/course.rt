@@ -1,6 +1,6 @@
 //! How a script stands to the one that was opened last.
 ghost use Rattle.std.specs.Prelude.{◌≡◌, ℕ};
-ghost use Rattle.script_run.specs.Top.{GivesCourse};
+ghost use Rattle.script_run.specs.Course.{GivesCourse};
 
 use crate::stop::Stop;
 use pef_engine::Script;

@@ -2,7 +2,7 @@
 ghost use Rattle.std.specs.Prelude.{◌≤◌, ℕ, List, IfOk, IsErrOf, Result};
 ghost use Rattle.board_core.specs.Causes.{Rose};
 ghost use Rattle.script_text.specs.Reading.{HasLeft};
-ghost use Rattle.script_run.specs.Top.{GivesHead};
+ghost use Rattle.script_run.specs.Course.{GivesHead};
 
 use crate::stop::Stop;
 use crate::taking::next_form;

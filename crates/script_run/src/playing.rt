@@ -8,7 +8,8 @@ ghost use Rattle.script_text.specs.Reading.{HasLeft};
 ghost use Rattle.script_text.specs.Script.{given};
 ghost use Rattle.script_run.specs.Report.{says};
 ghost use Rattle.script_run.specs.Run.{RunsGiven, Answers};
-ghost use Rattle.script_run.specs.Top.{Plays, TakesCourse, items_on};
+ghost use Rattle.script_run.specs.Playing.{Plays};
+ghost use Rattle.script_run.specs.Course.{TakesCourse, items_on};
 
 use crate::course::{Course, course_of};
 use crate::head::{Head, read_head};

@@ -4,7 +4,9 @@ ghost use Rattle.board_core.specs.Causes.{Rose};
 ghost use Rattle.pef_engine.specs.declared.entry.Entry.{Entry};
 ghost use Rattle.pef_engine.specs.Rules.{Lawful, Stands, StandsForNone};
 ghost use Rattle.script_run.specs.Report.{says};
-ghost use Rattle.script_run.specs.Top.{Performs, AnswersNone, IsOpeningStop, RunCall, Finishes, last_line, status_of};
+ghost use Rattle.script_run.specs.Playing.{Performs, AnswersNone, IsOpeningStop};
+ghost use Rattle.script_run.specs.Top.{RunCall};
+ghost use Rattle.script_run.specs.Status.{Finishes, last_line, status_of};
 
 use crate::playing::play;
 use crate::report::{add, number};

@@ -4,7 +4,7 @@ ghost use Rattle.board_core.specs.Causes.{Rose};
 ghost use Rattle.board_core.specs.Board.{LeavesOnly};
 ghost use Rattle.board_core.specs.Source.{Appends};
 ghost use Rattle.pef_engine.specs.declared.entry.Entry.{Entry};
-ghost use Rattle.pef_engine.specs.Lines.{LeavesPrefix};
+ghost use Rattle.pef_engine.specs.CrashFree.{LeavesPrefix};
 ghost use Rattle.pef_engine.specs.Engine.{Holds, IsLive, HasPlace};
 ghost use Rattle.script_run.specs.Report.{says};
 ghost use Rattle.script_run.specs.Run.{Runs, StopsFull, MovesOn, IsStepStop};
@@ -30,7 +30,7 @@ pub(crate) fn settle_and_say<M: Scripted, B: Board, K: Sink>(
         StopsFull M.rules M.view (says M.rules M.scripts) Z H [] (B.view board.old) (B.view board.new) engine.new (K.written out.old) (K.written out.new) }
     ensures moments { IsTrue (B.view board.new).tells → (Z : List ℕ) (H : List (Entry M.Item)) →
         Holds M.rules M.view Z H (B.view board.old) engine.old →
-        LeavesOnly (B.view board.old) (B.view board.new) (LeavesPrefix M.rules Z H (B.view board.old) []) }
+        LeavesOnly (B.view board.old) (B.view board.new) (LeavesPrefix M.rules Z H (B.view board.old).sent []) }
     ensures moves { OnOk result (MovesOn M.rules (M.view engine.old.machine) (M.view engine.new.machine) []) }
     ensures idle { OnOk result ((M.view engine.new.machine).due ≡ None) }
     ensures live { OnOk result (IsLive engine.new × HasPlace (B.view board.new) engine.new) }
@@ -72,7 +72,7 @@ pub(crate) fn take_one<M: Scripted, B: Board, K: Sink>(
         StopsFull M.rules M.view (says M.rules M.scripts) Z H (item ∷ []) (B.view board.old) (B.view board.new) engine.new (K.written out.old) (K.written out.new) }
     ensures moments { IsTrue (B.view board.new).tells → (Z : List ℕ) (H : List (Entry M.Item)) →
         Holds M.rules M.view Z H (B.view board.old) engine.old →
-        LeavesOnly (B.view board.old) (B.view board.new) (LeavesPrefix M.rules Z H (B.view board.old) (item ∷ [])) }
+        LeavesOnly (B.view board.old) (B.view board.new) (LeavesPrefix M.rules Z H (B.view board.old).sent (item ∷ [])) }
     ensures moves { OnOk result (MovesOn M.rules (M.view engine.old.machine) (M.view engine.new.machine) (item ∷ [])) }
     ensures idle { OnOk result ((M.view engine.new.machine).due ≡ None) }
     ensures live { OnOk result (IsLive engine.new × HasPlace (B.view board.new) engine.new) }

@@ -3,13 +3,13 @@ use Rattle.board_core.specs.Board.{LeavesOnly}
 use Rattle.script_text.specs.Lines.{lines_of}
 use Rattle.script_text.specs.Script.{given}
 use Rattle.pef_engine.specs.declared.entry.Entry.{Entry}
-use Rattle.pef_engine.specs.Lines.{LeavesPrefix}
+use Rattle.pef_engine.specs.CrashFree.{LeavesPrefix}
 use Rattle.pef_engine.specs.Engine.{Holds}
 use Rattle.script_run.specs.declared.stop.Stop.{Stop}
 use Rattle.script_run.specs.Report.{says}
 use Rattle.script_run.specs.Items.{rest_of}
 use Rattle.script_run.specs.Run.{Runs, StopsFull, RunsGiven}
-use Rattle.script_run.specs.Top.{items_on}
+use Rattle.script_run.specs.Course.{items_on}
 use Rattle.script_run.proofs.RunLemmas.{err_is, is_err}
 use Rattle.script_run.proofs.TakesLemmas.{step_fault}
 use Rattle.script_run.proofs.PlayLemmas.{first_fails, given_behind, fails_behind, opening_allowed, ready_opened}
@@ -27,7 +27,7 @@ returns-in-Err-clause-runs g c = λ tells Z H text holds unread.
     let rest = rest_of scripts' 0 given' in
     first_fails rules' view' says' Z H (scripts'.opening c.args.head.id c.args.head.count ∷ []) rest (scripts'.opening c.args.head.id c.args.head.count ∷ rest) given'.bad
     (view c.args.board.now) (view c.take_one.new.board) c.take_one.new.engine (written c.args.out.now) (written c.take_one.new.out) c.in-Err.stop (step_fault c.in-Err.stop c.in-Err.ensures.stops)
-    (subst (λ i. LeavesOnly (view c.args.board.now) (view c.take_one.new.board) (LeavesPrefix rules' Z H (view c.args.board.now) (i ∷ []))) c.opening.ensures.item (c.take_one.ensures.moments tells Z H holds))
+    (subst (λ i. LeavesOnly (view c.args.board.now) (view c.take_one.new.board) (LeavesPrefix rules' Z H (view c.args.board.now).sent (i ∷ []))) c.opening.ensures.item (c.take_one.ensures.moments tells Z H holds))
     (λ e. subst (λ i. StopsFull rules' view' says' Z H (i ∷ []) (view c.args.board.now) (view c.take_one.new.board) c.take_one.new.engine (written c.args.out.now) (written c.take_one.new.out)) c.opening.ensures.item (c.in-Err.ensures.full tells Z H holds (is_err e)))
     refl
 

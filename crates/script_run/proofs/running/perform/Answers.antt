@@ -5,7 +5,7 @@ use Rattle.script_run.specs.declared.stop.Stop.{Stop}
 use Rattle.script_run.specs.declared.stop.Stop.TheVariants.{Unformatted, Full, Memory}
 use Rattle.script_run.specs.Report.{says}
 use Rattle.script_run.specs.Items.{items_of_text}
-use Rattle.script_run.specs.Top.{Performs, AnswersNone}
+use Rattle.script_run.specs.Playing.{Performs, AnswersNone}
 use Rattle.script_run.proofs.RunLemmas.{err_is, is_err}
 use Rattle.script_run.proofs.TopLemmas.{open_keeps, performs_not, performs, opening_none}
 use Rattle.script_run.proofs.running.perform.Goals as goal
@@ -43,7 +43,7 @@ returns-clause-performs g c = λ tells Z H text lawful stands left.
     let written = g.K.Sink.written in
     let back = c.play.ensures.tells tells in
     let opened = c.in-Ok.ensures.opened back Z H lawful stands in
-    performs rules' view' says' scripts' Z H text (view c.args.board.now) (view c.open.new.board) (view c.play.new.board) c.play.new.engine (written c.args.out.now) (written c.play.new.out) opened.synced opened.sent
+    performs rules' view' says' scripts' Z H text (view c.args.board.now) (view c.open.new.board) (view c.play.new.board) c.play.new.engine (written c.args.out.now) (written c.play.new.out) stands opened.synced opened.sent
     (g.met.B.Board.sound c.play.new.board) tells c.play.result (c.play.ensures.plays tells Z H text opened.holds left)
 
 pub returns-clause-nothing : goal.returns-clause-nothing

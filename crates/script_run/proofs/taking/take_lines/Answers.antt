@@ -4,7 +4,7 @@ use Rattle.script_text.specs.Lines.{lines_of}
 use Rattle.script_text.specs.Script.{GivesForm}
 use Rattle.script_text.specs.declared.form.Form.TheVariants.{Head, Event as EventForm, End}
 use Rattle.pef_engine.specs.declared.entry.Entry.{Entry}
-use Rattle.pef_engine.specs.Lines.{LeavesPrefix}
+use Rattle.pef_engine.specs.CrashFree.{LeavesPrefix}
 use Rattle.pef_engine.specs.Engine.{Holds}
 use Rattle.script_run.specs.declared.stop.Stop.{Stop}
 use Rattle.script_run.specs.Report.{says}
@@ -151,7 +151,7 @@ returns-in-Err-take_one-clause-runs g c = λ tells Z H text holds unread.
     let more : 0 < c.lines.left = omega (arith, c.if-left-eq0.false) in
     let none : c.lines.skip ≡ 0 = omega (arith, c.if-skip-gt0.false) in
     event_fails rules' view' says' scripts' Z H text c.args.count c.args.taken (view c.args.board.now) (view c.lines.board) (view c.take_one.new.board) c.lines.engine c.take_one.new.engine (written c.args.out.now) (written c.lines.out) (written c.take_one.new.out) c.lines.reader c.next_form.new.reader (left c.lines.source) (left c.next_form.new.source) c.lines.skip c.lines.left c.lines.number c.lines.items c.in-Event.octets c.in-Err-take_one.stop t gives more none c.in-Err-take_one.ensures.stops
-    (subst (λ i. LeavesOnly (view c.lines.board) (view c.take_one.new.board) (LeavesPrefix rules' Z (H ++ t.runs.entries) (view c.lines.board) (i ∷ []))) c.event.ensures.item (c.take_one.ensures.moments tells Z (H ++ t.runs.entries) t.runs.holds))
+    (subst (λ i. LeavesOnly (view c.lines.board) (view c.take_one.new.board) (LeavesPrefix rules' Z (H ++ t.runs.entries) (view c.lines.board).sent (i ∷ []))) c.event.ensures.item (c.take_one.ensures.moments tells Z (H ++ t.runs.entries) t.runs.holds))
     (λ e. subst (λ i. StopsFull rules' view' says' Z (H ++ t.runs.entries) (i ∷ []) (view c.lines.board) (view c.take_one.new.board) c.take_one.new.engine (written c.lines.out) (written c.take_one.new.out)) c.event.ensures.item
     (c.in-Err-take_one.ensures.full tells Z (H ++ t.runs.entries) t.runs.holds (is_err e)))
 
@@ -206,7 +206,7 @@ returns-in-Err-take_one-2-clause-runs g c = λ tells Z H text holds unread.
     let gives = subst (GivesForm t.rest c.next_form.new.reader (left c.next_form.new.source)) form (c.in-Ok.ensures.form t.rest t.unread) in
     let none : c.lines.left ≡ 0 = omega (arith, c.if-left-ne0.false) in
     close_fails rules' view' says' scripts' Z H text c.args.count c.args.taken (view c.args.board.now) (view c.lines.board) (view c.take_one-in-End.new.board) c.lines.engine c.take_one-in-End.new.engine (written c.args.out.now) (written c.lines.out) (written c.take_one-in-End.new.out) c.lines.reader c.next_form.new.reader (left c.lines.source) (left c.next_form.new.source) c.lines.skip c.lines.left c.lines.number c.lines.items c.in-Err-take_one-2.stop t gives none c.in-Err-take_one-2.ensures.stops
-    (subst (λ i. LeavesOnly (view c.lines.board) (view c.take_one-in-End.new.board) (LeavesPrefix rules' Z (H ++ t.runs.entries) (view c.lines.board) (i ∷ []))) c.closing.ensures (c.take_one-in-End.ensures.moments tells Z (H ++ t.runs.entries) t.runs.holds))
+    (subst (λ i. LeavesOnly (view c.lines.board) (view c.take_one-in-End.new.board) (LeavesPrefix rules' Z (H ++ t.runs.entries) (view c.lines.board).sent (i ∷ []))) c.closing.ensures (c.take_one-in-End.ensures.moments tells Z (H ++ t.runs.entries) t.runs.holds))
     (λ e. subst (λ i. StopsFull rules' view' says' Z (H ++ t.runs.entries) (i ∷ []) (view c.lines.board) (view c.take_one-in-End.new.board) c.take_one-in-End.new.engine (written c.lines.out) (written c.take_one-in-End.new.out)) c.closing.ensures
     (c.in-Err-take_one-2.ensures.full tells Z (H ++ t.runs.entries) t.runs.holds (is_err e)))
 

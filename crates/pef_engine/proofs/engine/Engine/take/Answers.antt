@@ -2,7 +2,7 @@ use Rattle.std.proofs.Common.{ℕ, List, [], ◌∷◌, ◌++◌, map, sym, ◌�
 use Rattle.std.proofs.lemmas.List.{map-append}
 use Rattle.board_core.specs.Board.{LeavesOnly, SameSteps}
 use Rattle.pef_journal.specs.Journal.{IsAtEnd, StandsForEither}
-use Rattle.pef_engine.specs.Lines.{items_of}
+use Rattle.pef_engine.specs.CrashFree.{items_of}
 use Rattle.pef_engine.proofs.Moments.{take_any}
 use Rattle.pef_engine.proofs.Stored.{images_stand, lawful-append, nothing_moments}
 use Rattle.pef_engine.proofs.engine.Engine.take.Goals as goal

@@ -2,30 +2,31 @@
 use Rattle.std.specs.Prelude.{◌≡◌, ◌⊎◌, ℕ, zero, suc, ◌+◌, List, [], ◌∷◌, ◌++◌, length, Option, Some, None}
 use Rattle.board_core.specs.declared.step.Step.{Step}
 use Rattle.board_core.specs.declared.step.Told.{Told}
-use Rattle.board_core.specs.Board.{BoardView, Left, steps_of, tolds_of}
+use Rattle.board_core.specs.declared.step.Sent.{Sent}
+use Rattle.board_core.specs.Board.{CrashState, steps_of, tolds_of}
 use Rattle.pef_engine.specs.declared.entry.Entry.{Entry}
 use Rattle.pef_engine.specs.declared.entry.Entry.TheVariants.{Item, Outcome}
-use Rattle.pef_engine.specs.Rules.{Rules, Stands}
+use Rattle.pef_engine.specs.Rules.{Rules, LawfulFrom, Stands}
 
 abbrev pub option_list : {A : Type 0} → Option A → List A
 option_list None = []
 option_list (Some x) = x ∷ []
 
--- what comes next on the line: where a step is due its outcome, else an item, as long as there is one
-abbrev pub line_step : {I : Type 0} → (List (Entry I) → List I → List Told → List (Entry I)) → Option Step → List (Entry I) → List I → List Told → List (Entry I)
-line_step go_on (Some step) H items [] = []
-line_step go_on (Some step) H items (told ∷ tolds) = Outcome told ∷ go_on (H ++ Outcome told ∷ []) items tolds
-line_step go_on None H [] tolds = []
-line_step go_on None H (item ∷ items) tolds = Item item ∷ go_on (H ++ Item item ∷ []) items tolds
+-- what comes next in the run without a crash: where a step is due its outcome, else an item, as long as there is one
+abbrev pub crash_free_turn : {I : Type 0} → (List (Entry I) → List I → List Told → List (Entry I)) → Option Step → List (Entry I) → List I → List Told → List (Entry I)
+crash_free_turn go_on (Some step) H items [] = []
+crash_free_turn go_on (Some step) H items (told ∷ tolds) = Outcome told ∷ go_on (H ++ Outcome told ∷ []) items tolds
+crash_free_turn go_on None H [] tolds = []
+crash_free_turn go_on None H (item ∷ items) tolds = Item item ∷ go_on (H ++ Item item ∷ []) items tolds
 
 -- so many turns of the run without a crash
-abbrev pub line_for : {I : Type 0} → ℕ → Rules I → List ℕ → List (Entry I) → List I → List Told → List (Entry I)
-line_for zero rules Z H items tolds = []
-line_for (suc turns) rules Z H items tolds = line_step (line_for turns rules Z) (rules.pending Z H) H items tolds
+abbrev pub crash_free_turns : {I : Type 0} → ℕ → Rules I → List ℕ → List (Entry I) → List I → List Told → List (Entry I)
+crash_free_turns zero rules Z H items tolds = []
+crash_free_turns (suc turns) rules Z H items tolds = crash_free_turn (crash_free_turns turns rules Z) (rules.pending Z H) H items tolds
 
 -- the run without a crash: each turn uses up an item or an outcome
-abbrev pub line : {I : Type 0} → Rules I → List ℕ → List (Entry I) → List I → List Told → List (Entry I)
-line rules Z H items tolds = line_for (length items + length tolds) rules Z H items tolds
+abbrev pub crash_free_run : {I : Type 0} → Rules I → List ℕ → List (Entry I) → List I → List Told → List (Entry I)
+crash_free_run rules Z H items tolds = crash_free_turns (length items + length tolds) rules Z H items tolds
 
 -- the items and the outcomes of a history
 abbrev pub items_of : {I : Type 0} → Entry I → List I
@@ -61,14 +62,16 @@ pub record Kept {I : Type 0} (rules : Rules I) (Z : List ℕ) (H K : List (Entry
   pub prescribes : prescribed rules Z (H ++ K) ≡ prescribed rules Z H ++ stored
   pub issued : (T ≡ stored) ⊎ ((step : Step) × (rules.pending Z (H ++ K) ≡ Some step) × (T ≡ stored ++ step ∷ []))
 
--- The image stands for a prefix of the line, which is one, and the steps issued since start are kept.
-pub record LeavesPrefix {I : Type 0} (rules : Rules I) (Z : List ℕ) (H : List (Entry I)) (start : BoardView) (items : List I) (left : Left) : Type 0 where
+-- What a crash leaves, where so much had been sent at the start: the image stands for H with one prefix of the run without a crash,
+-- which is lawful behind H, and the steps issued since are kept.
+pub record LeavesPrefix {I : Type 0} (rules : Rules I) (Z : List ℕ) (H : List (Entry I)) (sent : List Sent) (items : List I) (left : CrashState) : Type 0 where
   pub steps : List Step
   pub tolds : List Told
-  pub issued : left.issued ≡ steps_of start.sent ++ steps
-  pub told : left.told ≡ tolds_of start.sent ++ tolds
+  pub issued : left.issued ≡ steps_of sent ++ steps
+  pub told : left.told ≡ tolds_of sent ++ tolds
   pub entries : List (Entry I)
-  pub on_line : IsPrefixOf entries (line rules Z H items tolds)
+  pub is_prefix : IsPrefixOf entries (crash_free_run rules Z H items tolds)
+  pub lawful : LawfulFrom rules Z H entries
   pub stands : Stands rules Z (H ++ entries) left.image
   pub kept : Kept rules Z H entries steps
-  pub only : (other : List (Entry I)) → IsPrefixOf other (line rules Z H items tolds) → Stands rules Z (H ++ other) left.image → other ≡ entries
+  pub only : (other : List (Entry I)) → IsPrefixOf other (crash_free_run rules Z H items tolds) → Stands rules Z (H ++ other) left.image → other ≡ entries

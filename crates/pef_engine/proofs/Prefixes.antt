@@ -1,4 +1,4 @@
--- Prefixes of a line, and the steps that they prescribe.
+-- Prefixes of the run without a crash, and the steps that they prescribe.
 use Rattle.std.proofs.Common.{◌≡◌, inl, inr, ℕ, List, [], ◌∷◌, ◌++◌, length, take, map, Some, None, refl, sym, ◌∙◌, ap, arith, length-append, append_assoc}
 use Rattle.std.proofs.lemmas.List.{take_at, append-nil, length-map}
 use Rattle.board_core.specs.declared.step.Step.{Step}
@@ -6,7 +6,7 @@ use Rattle.board_core.specs.declared.step.Told.{Told}
 use Rattle.pef_engine.specs.declared.entry.Entry.{Entry}
 use Rattle.pef_engine.specs.declared.entry.Entry.TheVariants.{Item, Outcome}
 use Rattle.pef_engine.specs.Rules.{Rules, Stands}
-use Rattle.pef_engine.specs.Lines.{line, line_for, line_step, IsPrefixOf, prescribed, prescribed_from, option_list, Kept}
+use Rattle.pef_engine.specs.CrashFree.{crash_free_run, crash_free_turns, crash_free_turn, IsPrefixOf, prescribed, prescribed_from, option_list, Kept}
 use Rattle.pef_journal.proofs.Unique.{Stands_unique}
 
 pub prefix_unique : {A : Type 0} (xs ys zs : List A) → IsPrefixOf xs zs → IsPrefixOf ys zs → length xs ≡ length ys → xs ≡ ys
@@ -36,8 +36,8 @@ module _ {I : Type 0} (rules : Rules I) (Z : List ℕ) where
   prescribed-append H K = prescribed_from-append [] H K
 
   -- behind a history at which a step is due comes its outcome
-  pub line_outcome : (H : List (Entry I)) (step : Step) (told : Told) → rules.pending Z H ≡ Some step → line rules Z H [] (told ∷ []) ≡ Outcome told ∷ []
-  line_outcome H step told due = ap (λ p. line_step (line_for 0 rules Z) p H [] (told ∷ [])) due
+  pub run_outcome : (H : List (Entry I)) (step : Step) (told : Told) → rules.pending Z H ≡ Some step → crash_free_run rules Z H [] (told ∷ []) ≡ Outcome told ∷ []
+  run_outcome H step told due = ap (λ p. crash_free_turn (crash_free_turns 0 rules Z) p H [] (told ∷ [])) due
 
   pub kept_none : (H : List (Entry I)) → Kept rules Z H [] []
   kept_none H = record { stored = []; prescribes = ap (prescribed rules Z) (append-nil H) ∙ sym (append-nil (prescribed rules Z H)); issued = inl refl }
@@ -82,8 +82,8 @@ module _ {I : Type 0} (rules : Rules I) (Z : List ℕ) where
   }
 
   -- behind a history at which none is due comes the item
-  pub line_item : (H : List (Entry I)) (item : I) → rules.pending Z H ≡ None → line rules Z H (item ∷ []) [] ≡ Item item ∷ []
-  line_item H item idle = ap (λ p. line_step (line_for 0 rules Z) p H (item ∷ []) []) idle
+  pub run_item : (H : List (Entry I)) (item : I) → rules.pending Z H ≡ None → crash_free_run rules Z H (item ∷ []) [] ≡ Item item ∷ []
+  run_item H item idle = ap (λ p. crash_free_turn (crash_free_turns 0 rules Z) p H (item ∷ []) []) idle
 
   pub kept_item : (H : List (Entry I)) (item : I) → Kept rules Z H (Item item ∷ []) []
   kept_item H item = record {

@@ -1,0 +1,84 @@
+-- What is done with a whole text.
+use Rattle.std.specs.Prelude.{◌≡◌, ◌⊎◌, ⊤, ℕ, List, [], ◌++◌, length, Option, None, IfSome, Result, Ok, Err, IsErrOf, IfOk, OnOk}
+use Rattle.board_core.specs.declared.step.Told.{Told}
+use Rattle.board_core.specs.Board.{BoardView, LeavesOnly, tolds_of}
+use Rattle.pef_engine.specs.declared.entry.Entry.{Entry}
+use Rattle.pef_engine.specs.declared.engine.Engine.{Engine}
+use Rattle.pef_engine.specs.declared.script.Script.{Script}
+use Rattle.pef_engine.specs.Rules.{Rules}
+use Rattle.pef_engine.specs.MachineView.{MachineView}
+use Rattle.pef_engine.specs.CrashFree.{crash_free_run, LeavesPrefix}
+use Rattle.script_text.specs.Script.{said_of, bad_line}
+use Rattle.script_run.specs.declared.stop.Stop.{Stop}
+use Rattle.script_run.specs.declared.stop.Stop.TheVariants.{Unformatted, Line, Unfinished, Input, Disk, Output, Full, Memory}
+use Rattle.pef_engine.specs.Scripts.{ScriptRules}
+use Rattle.script_run.specs.Items.{IsOther, items_of_text}
+use Rattle.script_run.specs.Report.{says}
+use Rattle.script_run.specs.Top.{RunKeeps, RunTakes, IsFullAt}
+use Rattle.script_run.specs.Run.{Runs, Answers, RunsGiven}
+
+-- what it may answer where another script is unfinished: it names that one, unless something failed before
+abbrev pub AnswersOther : {A : Type 0} → Option Script → Result A Stop → Type 0
+AnswersOther script (Ok x) = ⊥
+AnswersOther script (Err (Line number)) = ⊥
+AnswersOther script (Err (Unfinished id count)) = IfSome script (λ s. (s.id ≡ id) × (s.count ≡ count))
+AnswersOther script (Err Unformatted) = ⊥
+AnswersOther script (Err Input) = ⊤
+AnswersOther script (Err Disk) = ⊤
+AnswersOther script (Err Output) = ⊥
+AnswersOther script (Err Full) = ⊤
+AnswersOther script (Err Memory) = ⊤
+
+-- A text was run: what it gives was taken, up to its first bad line; where another script is unfinished nothing was, and that one is named.
+pub record Plays {I M : Type 0} (rules : Rules I) (view : M → MachineView I) (says : List ℕ → List (Entry I) → Entry I → List ℕ) (scripts : ScriptRules I) (Z : List ℕ) (H : List (Entry I)) (text : List ℕ) (start now : BoardView) (engine : Engine M I) (before after : Option (List ℕ)) (result : Result ℕ Stop) : Type 0 where
+  pub runs : (IsOther (scripts.script_of H) (said_of text) → ⊥) → RunsGiven rules view says Z H (items_of_text scripts text H) (bad_line (said_of text)) start now engine before after result
+  pub moments : LeavesOnly start now (LeavesPrefix rules Z H start.sent (items_of_text scripts text H))
+  pub refuses : IsOther (scripts.script_of H) (said_of text) → AnswersOther (scripts.script_of H) result × Runs rules view says Z H [] start now engine before after
+  pub other : (id count : ℕ) → result ≡ Err (Unfinished id count) → IsOther (scripts.script_of H) (said_of text)
+  pub full : IsErrOf result Full → IsOther (scripts.script_of H) (said_of text) → ⊥
+
+-- it answers of the text, and all that it took was reported
+abbrev pub IsReported : {A : Type 0} → Result A Stop → Type 0
+IsReported (Ok x) = ⊤
+IsReported (Err (Line number)) = ⊤
+IsReported (Err (Unfinished id count)) = ⊤
+IsReported (Err Unformatted) = ⊥
+IsReported (Err Input) = ⊥
+IsReported (Err Disk) = ⊥
+IsReported (Err Output) = ⊥
+IsReported (Err Full) = ⊥
+IsReported (Err Memory) = ⊥
+
+-- what it may answer where the file stands for no lawful history
+abbrev pub AnswersNone : {A : Type 0} → Result A Stop → Type 0
+AnswersNone (Ok x) = ⊥
+AnswersNone (Err Unformatted) = ⊤
+AnswersNone (Err (Line number)) = ⊥
+AnswersNone (Err (Unfinished id count)) = ⊥
+AnswersNone (Err Input) = ⊥
+AnswersNone (Err Disk) = ⊤
+AnswersNone (Err Output) = ⊥
+AnswersNone (Err Full) = ⊤
+AnswersNone (Err Memory) = ⊤
+
+-- What a run over a file that stands for H does with a text: the crash-free run of the items that the text gives behind H.
+pub record Performs {I M : Type 0} (rules : Rules I) (view : M → MachineView I) (says : List ℕ → List (Entry I) → Entry I → List ℕ) (scripts : ScriptRules I) (Z : List ℕ) (H : List (Entry I)) (text : List ℕ) (old new : BoardView) (before after : Option (List ℕ)) (result : Result ℕ Stop) : Type 0 where
+  pub keeps : RunKeeps rules Z H (items_of_text scripts text H) old new
+  pub takes : IsReported result → RunTakes rules says Z H (items_of_text scripts text H) old new before after []
+  pub idle : OnOk result ((tolds : List Told) → tolds_of new.sent ≡ tolds_of old.sent ++ tolds → rules.pending Z (H ++ crash_free_run rules Z H (items_of_text scripts text H) tolds) ≡ None)
+  pub number : IfOk result (λ n. n ≡ length (items_of_text scripts text H))
+  pub answers : (IsOther (scripts.script_of H) (said_of text) → ⊥) → Answers (bad_line (said_of text)) result
+  pub refuses : IsOther (scripts.script_of H) (said_of text) → AnswersOther (scripts.script_of H) result
+  pub other : (id count : ℕ) → IsErrOf result (Unfinished id count) → IsOther (scripts.script_of H) (said_of text)
+  pub full : IsErrOf result Full → IsFullAt rules view Z H (items_of_text scripts text H) old new ⊎ ((machine : M) × (item : I) × (view machine).over item)
+
+-- what an opening may stop with
+abbrev pub IsOpeningStop : Stop → Type 0
+IsOpeningStop Unformatted = ⊤
+IsOpeningStop (Line number) = ⊥
+IsOpeningStop (Unfinished id count) = ⊥
+IsOpeningStop Input = ⊥
+IsOpeningStop Disk = ⊤
+IsOpeningStop Output = ⊥
+IsOpeningStop Full = ⊤
+IsOpeningStop Memory = ⊤
