@@ -63,7 +63,7 @@ module _ {I M : Type 0} (rules : Rules I) (view : M → MachineView I) (says : L
     where
       moments_then : SyncsThen old new (LeavesPrefix rules Z H old.sent items)
       moments_then = syncs_then old mid new (LeavesPrefix rules Z H old.sent []) (LeavesPrefix rules Z H mid.sent items) (LeavesPrefix rules Z H old.sent items) first later
-        (λ left p. more_items rules view says Z H old [] items left p) (λ left q. same_start items old mid left sent q)
+          (λ left p. more_items rules view says Z H old [] items left p) (λ left q. same_start items old mid left sent q)
 
   -- the run without a crash of one that took all items and left nothing pending is its entries
   pub run_is : (items : List I) (K : List (Entry I)) → LawfulFrom rules Z H K → entry_items K ≡ items → crash_free_run rules Z H items (entry_tolds K) ≡ K
@@ -82,14 +82,14 @@ module _ {I M : Type 0} (rules : Rules I) (view : M → MachineView I) (says : L
     where
       along : NeverSynced old new ⊎ SyncsThen old new (LeavesPrefix rules Z H old.sent items)
       along = ⊎_elim inl
-        (λ s. inr (record {
-          synced = s.synced;
-          after_start = s.after_start;
-          by_now = s.by_now;
-          until = λ c since. ⊎_elim inl (λ later. inr (more_items rules view says Z H old [] items c (s.since c later))) (s.until c since);
-          since = λ c since. more_items rules view says Z H old [] items c (s.since c since);
-        }))
-        moments
+          (λ s. inr (record {
+            synced = s.synced;
+            after_start = s.after_start;
+            by_now = s.by_now;
+            until = λ c since. ⊎_elim inl (λ later. inr (more_items rules view says Z H old [] items c (s.since c later))) (s.until c since);
+            since = λ c since. more_items rules view says Z H old [] items c (s.since c since);
+          }))
+          moments
 
   -- all items were taken, and reported
   pub run_takes : (items : List I) (old mid new : BoardView) (engine : Engine M I) (before after : Option (List ℕ)) → mid.sent ≡ old.sent → (r : Runs rules view says Z H items mid new engine before after) → RunTakes rules says Z H items old new before after []
