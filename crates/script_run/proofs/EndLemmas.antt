@@ -222,10 +222,10 @@ status_ok mid after w1 w2 n status (inl ended) = inl ended.0
 status_ok mid after w1 w2 n status (inr ended) = inr (ended.0, ended.2)
 
 -- where the next entry was too much, it lacks room
-full_lacks : {I M : Type 0} (rules : Rules I) (view : M → MachineView I) (Z : List ℕ) (H : List (Entry I)) (items : List I) (old new : BoardView) → IsFullAt rules view Z H items old new ⊎ ((machine : M) × (item : I) × (view machine).over item)
-    → HasNoLimit view → (tolds : List Told) × LacksRoom rules Z H items tolds
-full_lacks rules view Z H items old new (inr over) limit = absurd (limit over.0 over.1 over.2)
-full_lacks {I} {M} rules view Z H items old new (inl f) limit = (f.tolds ++ f.more, record { entries = f.entries; next = f.next; is_prefix = f.is_prefix; no_room = of f.next f.too_much })
+full_lacks : {I M : Type 0} (rules : Rules I) (view : M → MachineView I) (Z : List ℕ) (H : List (Entry I)) (all : List I) (old new : BoardView) → IsFullAt rules view Z H all old new ⊎ ((machine : M) × (item : I) × (view machine).over item)
+    → HasNoLimit view → (tolds : List Told) × LacksRoom rules Z H all tolds
+full_lacks rules view Z H all old new (inr over) limit = absurd (limit over.0 over.1 over.2)
+full_lacks {I} {M} rules view Z H all old new (inl f) limit = (f.tolds ++ f.more, record { entries = f.entries; next = f.next; is_prefix = f.is_prefix; no_room = of f.next f.too_much })
   where
     of : (e : Entry I) → IsTooMuch rules view Z (H ++ f.entries) e → HasNoRoomBehind rules Z (H ++ f.entries) e
     of e (inl none) = none
