@@ -1,7 +1,7 @@
 -- What a crash leaves while an entry is added.
-use Rattle.std.proofs.Common.{◌≡◌, ◌≢◌, inl, inr, ℕ, ◌+◌, ◌/◌, ◌%◌, ◌≤◌, max, List, [], ◌∷◌, ◌++◌, length, get_or, take, drop, IsTrue, refl, sym, ◌∙◌, ap, subst, arith, append_assoc, length-append, take-append-drop, ◌-◌}
+use Rattle.std.proofs.Common.{◌≡◌, ◌≢◌, inl, inr, ℕ, ◌+◌, ◌/◌, ◌%◌, ◌≤◌, List, [], ◌∷◌, ◌++◌, length, get_or, take, drop, IsTrue, refl, sym, ◌∙◌, ap, subst, arith, append_assoc, length-append, take-append-drop}
 use Rattle.std.proofs.lemmas.Bool.{cases_eq}
-use Rattle.std.proofs.lemmas.List.{take_at, drop_at, drop_more, append-nil, length-drop, length-take-le, take-append-le}
+use Rattle.std.proofs.lemmas.List.{take_at, drop_at, drop_more, append-nil, length-take-le, take-append-le}
 use Rattle.board_core.specs.Board.{BoardView, CrashState, LeftNow, IsSound, IsFileCall, LeavesOnly, SameSteps, Torn, Follows, Holds, Only, steps_of, tolds_of}
 use Rattle.pef_journal.specs.Image.{header, blocks, frame, IsPayload, AllPayloads, HasEntries, Stands}
 use Rattle.pef_journal.specs.Journal.{IsAtEnd, StandsForEither}
@@ -160,13 +160,12 @@ module _ (kind : ℕ) (Z : List ℕ) (E : List (List ℕ)) (v : BoardView) (jour
           after_last z call_z tells_z fewer_z = goes_on v y z Leaves after_second call_z tells_z (λ left now. (steps_same z left (call_z.run.sent tells_z ∙ sent_y) now, second left.image (fewer_z left.image now.image)))
 
           -- and then it stands behind the new entry
-          pub at_new_end : (z : BoardView) (new : Journal) → Holds x.octets journal.place (165 ∷ []) y.octets → z.octets ≡ y.octets → Only z.octets z.images → new.place ≡ journal.place + (3 + length p) → new.file_length ≡ max journal.file_length (journal.place + (3 + length p) + 1) → IsTrue new.ended → IsAtEnd kind Z (E ++ p ∷ []) z new
-          at_new_end z new holds_y octets_z only_z place size ended = record {
+          pub at_new_end : (z : BoardView) (new : Journal) → Holds x.octets journal.place (165 ∷ []) y.octets → z.octets ≡ y.octets → Only z.octets z.images → new.place ≡ journal.place + (3 + length p) → IsTrue new.ended → IsAtEnd kind Z (E ++ p ∷ []) z new
+          at_new_end z new holds_y octets_z only_z place ended = record {
             at = record {
               rest = 0 ∷ old_tail;
               file = (at.at.file.0, whole, λ none. let size : length (blocks (E ++ p ∷ []) ++ 0 ∷ old_tail) ≡ 0 = ap length none in absurd (omega (arith, size, length-append (blocks (E ++ p ∷ [])) (0 ∷ old_tail))));
               place = place_new;
-              file_length = size_new;
               left = (0, old_tail, refl, λ clash. absurd (cc clash));
               stands = subst (λ l. Stands kind Z l z.octets) (sym (append-nil (E ++ p ∷ []))) (subst (Stands kind Z (E ++ p ∷ [])) (sym is) (stands_staged old_tail));
               lasting = only_z;
@@ -190,12 +189,3 @@ module _ (kind : ℕ) (Z : List ℕ) (E : List (List ℕ)) (v : BoardView) (jour
 
               place_new : new.place ≡ length (header kind Z ++ blocks (E ++ p ∷ []))
               place_new = omega (arith, place, place_is, length-append (header kind Z) (blocks (E ++ p ∷ [])), ap length blocks_p, length-append (header kind Z) (blocks E), length-append (blocks E) (165 ∷ (length p % 256) ∷ (length p / 256) ∷ (p ++ [])), length-append p [])
-
-              size_old : journal.file_length ≡ length front + (1 + length at.at.left.1)
-              size_old = omega (arith, at.at.file_length, ap length file_is, length-append front (at.at.left.0 ∷ at.at.left.1))
-
-              tail_size : length old_tail ≡ length v.octets - (journal.place + 1 + length (frame p))
-              tail_size = length-drop (journal.place + 1 + length (frame p)) v.octets
-
-              size_new : new.file_length ≡ length z.octets
-              size_new = omega (arith, size, size_old, at.at.file_length, place_is, tail_size, length-append p (0 ∷ []), ap length is, length-append front (165 ∷ (length p % 256) ∷ (length p / 256) ∷ (p ++ 0 ∷ old_tail)), length-append p (0 ∷ old_tail))

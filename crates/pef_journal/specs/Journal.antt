@@ -13,10 +13,6 @@ HasEnded journal = IsTrue journal.ended
 abbrev pub HasRoom : Journal → ℕ → Type 0
 HasRoom journal n = journal.place + 4 + n ≤ 16777216
 
--- the journal knows the length of the board's file, where that is told
-abbrev pub KnowsLength : BoardView → Journal → Type 0
-KnowsLength v journal = IsTrue v.tells → journal.file_length ≡ length v.octets
-
 -- a crash leaves the file as a read gave it then, and no further step
 abbrev pub LeavesAsRead : BoardView → CrashState → Type 0
 LeavesAsRead v left = SameSteps v left × (left.image ≡ v.octets)
@@ -27,7 +23,6 @@ pub record HasRead (kind : ℕ) (settings : List ℕ) (before : List (List ℕ))
   pub file : HasHeader kind settings (blocks before ++ rest) v.octets
   pub payloads : AllPayloads before
   pub place : journal.place ≡ length (header kind settings ++ blocks before)
-  pub file_length : journal.file_length ≡ length v.octets
   pub lasting : Only v.octets v.images
 
 -- it stands behind these entries and before those, and all of it is on the disk
@@ -35,7 +30,6 @@ pub record IsAt (kind : ℕ) (settings : List ℕ) (before after : List (List �
   pub rest : List ℕ
   pub file : HasHeader kind settings (blocks before ++ rest) v.octets
   pub place : journal.place ≡ length (header kind settings ++ blocks before)
-  pub file_length : journal.file_length ≡ length v.octets
   pub left : HasEntries after rest
   pub stands : Stands kind settings (before ++ after) v.octets
   pub lasting : Only v.octets v.images

@@ -3,7 +3,7 @@ ghost use Rattle.std.specs.Prelude.{◌≡◌, ◌⊎◌, ◌↔◌, ◌+◌, �
 ghost use Rattle.board_core.specs.Causes.{Rose};
 ghost use Rattle.board_core.specs.Board.{LeavesOnly, HasRoomFor, Holds, SameSteps, IsFileRun};
 ghost use Rattle.pef_journal.specs.Image.{frame};
-ghost use Rattle.pef_journal.specs.Journal.{IsAtEnd, HasEnded, HasRoom, KnowsLength, StandsForEither};
+ghost use Rattle.pef_journal.specs.Journal.{IsAtEnd, HasEnded, HasRoom, StandsForEither};
 
 use crate::JournalFault;
 use crate::journal::Journal;
@@ -34,7 +34,6 @@ impl Journal {
         ensures disk { IsErrOf result JournalFault.DiskFault → Rose (B.view board.old).disk_faults (B.view board.new).disk_faults }
         ensures other { OnErr result (IsErrOf result JournalFault.Full ⊎ IsErrOf result JournalFault.DiskFault) }
         ensures place { OnOk result (HasRoomFor (B.view board.new) (self.new.place + 1)) }
-        ensures knows { KnowsLength (B.view board.old) self.old → OnOk result (KnowsLength (B.view board.new) self.new) }
         ensures stays { HasEnded self.new }
     {
         payload.fits();
@@ -49,7 +48,6 @@ impl Journal {
         board.write_at(self.place, &[OPEN])?;
         board.sync()?;
         self.place += 3 + length as u64;
-        self.file_length = self.file_length.max(self.place + 1);
         Ok(())
     }
 }

@@ -1,4 +1,4 @@
-use Rattle.std.proofs.Common.{◌≡◌, ℕ, ◌+◌, max, List, [], ◌∷◌, length, sym, ◌∙◌, ap, subst, arith}
+use Rattle.std.proofs.Common.{◌≡◌, ℕ, ◌+◌, List, [], ◌∷◌, length, sym, ◌∙◌, ap, subst, arith}
 use Rattle.board_core.specs.Board.{Torn, Follows, Holds}
 use Rattle.pef_journal.specs.Image.{frame, IsPayload}
 use Rattle.pef_journal.proofs.Append.{written_whole, at_start, after_first, after_sync, after_second, after_last, at_new_end}
@@ -114,7 +114,7 @@ returns-clause-added g c = λ tells kind Z E at.
     let start = at_start kind Z E v j at p payload (g.met.B.Board.sound c.args.board.now) t0 in
     let images1 = subst (λ (l : List ℕ). Follows (Torn (j.place + 1) (length l)) v.images v1.images) fr (c.write_at.ensures.written.images t1) in
     let holds = subst (λ (l : List ℕ). Holds v.octets (j.place + 1) l v1.octets) fr (c.in_ok-write_at.ensures.written.written t1) in
-    at_new_end kind Z E v j at p payload v1 start c.write_at.ensures.written.call t1 images1 v2 c.sync.ensures.lasting.call t2 (c.sync.ensures.lasting.fewer t2) v3 c.write_at-2.ensures.written.call t3 holds (c.sync.ensures.lasting.octets t2) (c.in_ok-sync.ensures.lasting.lasting t2) (c.write_at-2.ensures.written.images t3) v4 (record { place = j.place + (3 + length c.as_slice-length.result.now); ended = j.ended; file_length = c.max-self.result }) (c.in_ok-write_at-2.ensures.written.written t3) (c.sync-2.ensures.lasting.octets t4) (c.in_ok-sync-2.ensures.lasting.lasting t4) (ap (λ (l : List ℕ). j.place + (3 + length l)) c.as_slice-length.ensures) (c.max-self.ensures ∙ ap (λ (l : List ℕ). max j.file_length (j.place + (3 + length l) + 1)) c.as_slice-length.ensures) c.requires.ended
+    at_new_end kind Z E v j at p payload v1 start c.write_at.ensures.written.call t1 images1 v2 c.sync.ensures.lasting.call t2 (c.sync.ensures.lasting.fewer t2) v3 c.write_at-2.ensures.written.call t3 holds (c.sync.ensures.lasting.octets t2) (c.in_ok-sync.ensures.lasting.lasting t2) (c.write_at-2.ensures.written.images t3) v4 (record { place = j.place + (3 + length c.as_slice-length.result.now); ended = j.ended }) (c.in_ok-write_at-2.ensures.written.written t3) (c.sync-2.ensures.lasting.octets t4) (c.in_ok-sync-2.ensures.lasting.lasting t4) (ap (λ (l : List ℕ). j.place + (3 + length l)) c.as_slice-length.ensures) c.requires.ended
 
 pub returns-clause-written : goal.returns-clause-written
 returns-clause-written g c = λ tells.
