@@ -1,5 +1,5 @@
 -- Any number of calls of a program are lives of its file.
-use Rattle.std.proofs.Common.{◌≡◌, ℕ, List, [], ◌∷◌, ◌++◌, length, drop, map, refl, sym, ◌∙◌, ap, subst}
+use Rattle.std.proofs.Common.{◌≡◌, ℕ, suc, List, [], ◌∷◌, ◌++◌, length, drop, map, refl, sym, ◌∙◌, ap, subst}
 use Rattle.std.proofs.lemmas.List.{append-nil, drop_at, length-map}
 use Rattle.board_core.specs.declared.step.Step.{Step}
 use Rattle.board_core.specs.declared.step.Sent.{Sent}
@@ -29,7 +29,7 @@ module _ {I : Type 0} (rules : Rules I) (Z : List ℕ) where
       let rest = lived (H ++ here.entries) calls G more in record {
         lives = record { stored = here.entries; steps = here.steps } ∷ rest.lives;
         are = (here.lawful, here.kept, rest.are);
-        many = λ i. 1 + rest.many i;
+        many = ap suc rest.many;
         steps = (λ i. steps_since call.sent call.left.issued here.steps here.issued i ++ rest.steps i);
         last = rest.last;
       }

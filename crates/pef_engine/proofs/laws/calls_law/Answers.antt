@@ -1,3 +1,4 @@
+use Rattle.std.proofs.Common.{[]}
 use Rattle.pef_engine.proofs.CallsLaw.{calls_repeat, calls_lawful}
 use Rattle.pef_engine.proofs.laws.calls_law.Goals as goal
 
