@@ -1,5 +1,5 @@
 -- What is stored stays so while a step is issued.
-use Rattle.std.proofs.Common.{◌≡◌, inl, ℕ, List, [], ◌∷◌, ◌++◌, length, IsTrue, sym, ◌∙◌, ap, subst, arith, append_assoc}
+use Rattle.std.proofs.Common.{◌≡◌, inl, ℕ, List, [], ◌∷◌, ◌++◌, IsTrue, sym, ◌∙◌, subst, arith, append_assoc}
 use Rattle.std.proofs.lemmas.List.{append-nil}
 use Rattle.board_core.specs.Board.{BoardView, IsSound, LeavesOnly}
 use Rattle.pef_engine.specs.declared.entry.Entry.{Entry}
