@@ -8,6 +8,7 @@ ghost use Rattle.pef_journal.specs.Journal.{IsAtEnd, HasEnded, HasRoom, StandsFo
 use crate::JournalFault;
 use crate::journal::Journal;
 use crate::layout::{OPEN, frame_of};
+use crate::syncing::write_synced;
 use board_core::{Board, Payload};
 
 impl Journal {
@@ -42,11 +43,9 @@ impl Journal {
             return Err(JournalFault::Full);
         }
         let frame = frame_of(payload);
-        board.write_at(self.place + 1, frame.as_slice())?;
-        // until this sync is done, behind an open gate anything might stand
-        board.sync()?;
-        board.write_at(self.place, &[OPEN])?;
-        board.sync()?;
+        // until this is done, behind an open gate anything might stand
+        write_synced(board, self.place + 1, frame.as_slice())?;
+        write_synced(board, self.place, &[OPEN])?;
         self.place += 3 + length as u64;
         Ok(())
     }
