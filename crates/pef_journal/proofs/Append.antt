@@ -121,16 +121,16 @@ module _ (kind : ℕ) (Z : List ℕ) (E : List (List ℕ)) (v : BoardView) (jour
       inl (subst (Stands kind Z E) (sym (at.at.lasting left.image now.image)) (subst (λ l. Stands kind Z l v.octets) (append-nil E) at.at.stands)),
     ))
 
-    module _ (w : BoardView) (torn_w : LeavesOnly v w (LeavesTorn (journal.place + 1) (length (frame p)) v)) where
+    module _ (w : BoardView) (octets : List ℕ) (torn_w : LeavesOnly v w (LeavesTorn (journal.place + 1) (length octets) v)) where
       pub after_body : LeavesOnly v w Leaves
-      after_body = leaves_map v w (LeavesTorn (journal.place + 1) (length (frame p)) v) Leaves first torn_w
+      after_body = leaves_map v w (LeavesTorn (journal.place + 1) (length octets) v) Leaves first torn_w
         where
-          first : (left : CrashState) → LeavesTorn (journal.place + 1) (length (frame p)) v left → Leaves left
-          first left is = (is.3, inl (torn_behind (length (frame p)) left.image (subst (λ f. Torn (journal.place + 1) (length (frame p)) f left.image) (at.at.lasting is.0 is.1) is.2)))
+          first : (left : CrashState) → LeavesTorn (journal.place + 1) (length octets) v left → Leaves left
+          first left is = (is.3, inl (torn_behind (length octets) left.image (subst (λ f. Torn (journal.place + 1) (length octets) f left.image) (at.at.lasting is.0 is.1) is.2)))
 
-      module _ (run : IsFileRun v w) (tells : IsTrue w.tells) (holds : Holds v.octets (journal.place + 1) (frame p) w.octets) (only : Only w.octets w.images) where
+      module _ (is_frame : octets ≡ frame p) (run : IsFileRun v w) (tells : IsTrue w.tells) (holds : Holds v.octets (journal.place + 1) octets w.octets) (only : Only w.octets w.images) where
         staged_w : w.octets ≡ staged at.at.left.0 old_tail
-        staged_w = written_behind w.octets holds
+        staged_w = written_behind w.octets (subst (λ l. Holds v.octets (journal.place + 1) l w.octets) is_frame holds)
 
         pub after_gate : (x : BoardView) → LeavesOnly w x (LeavesTorn journal.place 1 w) → LeavesOnly v x Leaves
         after_gate x torn_x = leaves_compose v w x Leaves (LeavesTorn journal.place 1 w) after_body torn_x second

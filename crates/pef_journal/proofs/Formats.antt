@@ -92,17 +92,17 @@ module _ (kind : ℕ) (Z : List ℕ) (v a : BoardView) (fits : HasSettingsLength
       let mark = mark_is c is in
       is_unmarked.1 (ap (λ l. get_or l 0 0) (sym (ap (take 1) is_unmarked.2) ∙ sym torn.before ∙ ap (take 1) mark.1))
 
-  module _ (b : BoardView) (torn_b : LeavesOnly a b (LeavesTorn 1 (length (body kind Z)) a)) where
+  module _ (b : BoardView) (octets : List ℕ) (torn_b : LeavesOnly a b (LeavesTorn 1 (length octets) a)) where
     pub after_body : LeavesOnly v b Leaves
-    after_body = leaves_compose v a b Leaves (LeavesTorn 1 (length (body kind Z)) a) before_body torn_b first
+    after_body = leaves_compose v a b Leaves (LeavesTorn 1 (length octets) a) before_body torn_b first
       where
-        first : (left : CrashState) → LeavesTorn 1 (length (body kind Z)) a left → Leaves left
+        first : (left : CrashState) → LeavesTorn 1 (length octets) a left → Leaves left
         first left is = (
           steps_along v a left (run.sent tells_a) is.3,
-          inl (torn_body (length (body kind Z)) left.image (subst (λ f. Torn 1 (length (body kind Z)) f left.image) (only is.0 is.1) is.2)),
+          inl (torn_body (length octets) left.image (subst (λ f. Torn 1 (length octets) f left.image) (only is.0 is.1) is.2)),
         )
 
-    module _ (run_b : IsFileRun a b) (tells_b : IsTrue b.tells) (holds : Holds a.octets 1 (body kind Z) b.octets) (only_b : Only b.octets b.images) where
+    module _ (is_body : octets ≡ body kind Z) (run_b : IsFileRun a b) (tells_b : IsTrue b.tells) (holds : Holds a.octets 1 octets b.octets) (only_b : Only b.octets b.images) where
       tail_is : drop (1 + length (body kind Z)) a.octets ≡ old_tail
       tail_is =
           let more : 1 + length (body kind Z) ≡ 1 + (4 + length Z) = omega (arith, length-append Z (0 ∷ [])) in
@@ -110,7 +110,7 @@ module _ (kind : ℕ) (Z : List ℕ) (v a : BoardView) (fits : HasSettingsLength
           ap (λ k. drop k a.octets) more ∙ sym (drop-drop (4 + length Z) 1 a.octets) ∙ ap (drop (4 + length Z)) (ap (drop 1) is_unmarked.2) ∙ drop-drop (4 + length Z) 1 v.octets ∙ ap (λ k. drop k v.octets) all
 
       staged_b : b.octets ≡ staged is_unmarked.0
-      staged_b = holds ∙ ap (λ l. (take 1 a.octets ++ body kind Z) ++ l) tail_is ∙ ap (λ l. (take 1 l ++ body kind Z) ++ old_tail) is_unmarked.2
+      staged_b = subst (λ l. Holds a.octets 1 l b.octets) is_body holds ∙ ap (λ l. (take 1 a.octets ++ body kind Z) ++ l) tail_is ∙ ap (λ l. (take 1 l ++ body kind Z) ++ old_tail) is_unmarked.2
 
       torn_last : (i : List ℕ) → Torn 0 1 b.octets i → IsEmptyOrUnformatted kind Z i
       torn_last i torn =
