@@ -108,9 +108,9 @@ octets = (refl, refl, refl)
 
 -- The run without a crash: one event and what its step was told, an event that asks for nothing, and an event whose step
 -- has been told nothing yet, behind which no item comes.
-runs_without_a_crash : (line controller_rules settings [] (Event fan ∷ []) (Done ∷ []) ≡ Taken (Event fan) ∷ Outcome Done ∷ [])
-    × (line controller_rules settings [] (Event fan ∷ []) (Failed ∷ []) ≡ Taken (Event fan) ∷ Outcome Failed ∷ [])
-    × (line controller_rules settings [] (Event (fan_with 0x01 0x02 0x53) ∷ []) [] ≡ Taken (Event (fan_with 0x01 0x02 0x53)) ∷ [])
-    × (line controller_rules settings [] (Event fan ∷ Close ∷ []) [] ≡ Taken (Event fan) ∷ [])
+runs_without_a_crash : (crash_free_run controller_rules settings [] (Event fan ∷ []) (Done ∷ []) ≡ Taken (Event fan) ∷ Outcome Done ∷ [])
+    × (crash_free_run controller_rules settings [] (Event fan ∷ []) (Failed ∷ []) ≡ Taken (Event fan) ∷ Outcome Failed ∷ [])
+    × (crash_free_run controller_rules settings [] (Event (fan_with 0x01 0x02 0x53) ∷ []) [] ≡ Taken (Event (fan_with 0x01 0x02 0x53)) ∷ [])
+    × (crash_free_run controller_rules settings [] (Event fan ∷ Close ∷ []) [] ≡ Taken (Event fan) ∷ [])
 unfolding fits is_match asks_by
 runs_without_a_crash = (refl, refl, refl, refl)
