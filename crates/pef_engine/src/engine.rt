@@ -46,6 +46,8 @@ impl<M: Machine> Engine<M> {
         ensures over { IsOver (M.view self.old.machine) entry.now ⊎ (HasRoomForEntry M.rules self.old entry.now → ⊥) →
             IsErrOf result EngineFault.Full ⊎ (IsErr result × IsTrue M.rules.takes_memory) }
         ensures other { IsErr result → IsErrOf result EngineFault.Full ⊎ (IsErrOf result EngineFault.DiskFault ⊎ IsTrue M.rules.takes_memory) }
+        ensures never { (IsErrOf result EngineFault.NotFormatted → ⊥) × ((at : _) → IsErrOf result (EngineFault.Corrupt at) → ⊥) }
+        ensures fits { OnOk result (HasRoomForEntry M.rules self.old entry.now) }
         ensures goes_on { OnOk result (GoesOn M.rules (M.view self.old.machine) (M.view self.new.machine) entry.now) }
         ensures refused { OnErr result (KeepsAllButReady (M.view self.old.machine) (M.view self.new.machine)) }
         ensures unchanged { IsErr result → (IsErrOf result EngineFault.DiskFault → ⊥) → (board.new ≡ board.old) × ((self.new.journal ≡ self.old.journal) × (self.new.live ≡ self.old.live)) }
@@ -88,6 +90,7 @@ impl<M: Machine> Engine<M> {
         ensures goes_on { IfOk result (λ told. (given : _) → told ≡ Some given → GoesOn M.rules (M.view self.old.machine) (M.view self.new.machine) (Outcome given)) }
         ensures idle { IfOk result (λ told. told ≡ None → (self.new ≡ self.old) × (board.new ≡ board.old)) }
         ensures fewer { IfOk result (λ told. IsSome told → (M.view self.new.machine).left < (M.view self.old.machine).left) }
+        ensures fits { IfOk result (λ told. IsSome told → HasRoomForOutcome M.rules self.old) }
         ensures full { IsErrOf result EngineFault.Full ↔ (IsSome (M.view self.old.machine).due × (HasRoomForOutcome M.rules self.old → ⊥)) }
         ensures unchanged { IsErrOf result EngineFault.Full → (board.new ≡ board.old) × (self.new ≡ self.old) }
         ensures live { IsLive self.new ↔ (IsErrOf result EngineFault.DiskFault → ⊥) }

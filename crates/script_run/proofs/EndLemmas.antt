@@ -4,19 +4,23 @@ use Rattle.std.specs.Prelude.{IsErrOf, IsSome}
 use Rattle.std.proofs.lemmas.List.{append-nil}
 use Rattle.board_core.specs.Causes.{Rose}
 use Rattle.board_core.specs.Board.{BoardView}
+use Rattle.board_core.specs.declared.step.Told.{Told}
 use Rattle.pef_engine.specs.declared.entry.Entry.{Entry}
+use Rattle.pef_engine.specs.declared.entry.Entry.TheVariants.{Item, Outcome}
 use Rattle.pef_engine.specs.Rules.{Rules, Lawful, Stands, StandsForNone}
 use Rattle.pef_engine.specs.MachineView.{MachineView}
 use Rattle.pef_engine.specs.CrashFree.{crash_free_run}
 use Rattle.pef_engine.specs.Scripts.{ScriptRules}
-use Rattle.script_text.specs.Script.{said_of, bad_line}
+use Rattle.script_text.specs.Script.{Said, said_of, bad_line}
 use Rattle.script_run.specs.declared.stop.Stop.{Stop}
 use Rattle.script_run.specs.declared.stop.Stop.TheVariants.{Unformatted, Line, Unfinished, Input, Disk, Output, Full, Memory}
 use Rattle.script_run.specs.Items.{IsOther, items_of_text}
 use Rattle.script_run.specs.Report.{report_from, says, ok_line, bad_line_line, unfinished_line}
-use Rattle.script_run.specs.Top.{RunTakes, RunIsWhole, RunStops, RunAnswers, RunCall}
+use Rattle.script_run.specs.Top.{RunTakes, RunIsWhole, RunStops, IsFullAt, RunAnswers, RunCall}
 use Rattle.script_run.specs.Status.{IsPartOf, Finishes, IsOneOf, last_line, status_of}
+use Rattle.script_run.specs.Room.{HasNoRoomBehind, LacksRoom, IsTooMuch, HasNoLimit}
 use Rattle.script_run.specs.Playing.{Performs, AnswersNone}
+use Rattle.script_run.proofs.Lacks.{lacks_none}
 
 module _ {I : Type 0} (rules : Rules I) (scripts : ScriptRules I) (Z : List ℕ) (H : List (Entry I)) (items : List I) (old new : BoardView) where
   -- part of a last line behind the report
@@ -26,6 +30,9 @@ module _ {I : Type 0} (rules : Rules I) (scripts : ScriptRules I) (Z : List ℕ)
         tolds = t.tolds;
         told = t.told;
         taken = t.taken;
+        stored = t.stored;
+        lawful = t.lawful;
+        room = t.room;
         lasting = t.lasting;
         written = λ text is. wrote (text ++ (report ++ [])) (t.written text is) ∙ ap Some (ap (λ r. (text ++ r) ++ part) (append-nil report) ∙ append_assoc text report part);
       }
@@ -36,7 +43,7 @@ module _ {I : Type 0} (rules : Rules I) (scripts : ScriptRules I) (Z : List ℕ)
   stops_on before mid after w0 w1 w2 last later t wrote (inl untold) = record {
     part = last;
     is_part = (([], append-nil last), inl refl);
-    takes = record { tolds = t.tolds; told = t.told; taken = t.taken; lasting = t.lasting; written = λ text is. absurd (untold text is) };
+    takes = record { tolds = t.tolds; told = t.told; taken = t.taken; stored = t.stored; lawful = t.lawful; room = t.room; lasting = t.lasting; written = λ text is. absurd (untold text is) };
   }
   stops_on before mid after w0 w1 w2 last later t wrote (inr told) =
       let report = report_from (says rules scripts) Z H (crash_free_run rules Z H items t.tolds) in
@@ -47,6 +54,9 @@ module _ {I : Type 0} (rules : Rules I) (scripts : ScriptRules I) (Z : List ℕ)
           tolds = t.tolds;
           told = t.told;
           taken = t.taken;
+          stored = t.stored;
+          lawful = t.lawful;
+          room = t.room;
           lasting = t.lasting;
           written = λ text is. w.1 ∙ ap (λ x. Some ((x ++ (report ++ [])) ++ w.0)) (same_text told.0 text (sym told.1 ∙ is)) ∙ ap Some (ap (λ r. (text ++ r) ++ w.0) (append-nil report) ∙ append_assoc text report w.0);
         };
@@ -61,6 +71,10 @@ module _ {I : Type 0} (rules : Rules I) (scripts : ScriptRules I) (Z : List ℕ)
 told_or_not : (before : Option (List ℕ)) → ((text : List ℕ) → before ≡ Some text → ⊥) ⊎ ((text : List ℕ) × (before ≡ Some text))
 told_or_not None = inl (λ text e. cc e)
 told_or_not (Some text) = inr (text, refl)
+
+said_some : (said : Option Said) → bad_line said ≡ None → IsSome said
+said_some None good = absurd (cc good)
+said_some (Some said) good = refl
 
 none_some : {A : Type 0} (o : Option A) → o ≡ None → IsSome o → ⊥
 none_some None e some = cc some
@@ -77,24 +91,28 @@ module _ {I M : Type 0} (rules : Rules I) (view : M → MachineView I) (scripts 
       let wrote = λ (t : List ℕ) (e : mid ≡ Some t). ended.2 t e ∙ ap (λ k. Some (t ++ ok_line k)) p.number in
       let takes = part_on rules scripts Z H items old new before mid after (ok_line (length items)) (p.takes tt) wrote in record {
         headline = p.keeps;
-        whole = λ e. record { takes = takes; idle = p.idle takes.tolds takes.told };
+        whole = λ e. record { takes = takes; idle = p.idle (said_some (said_of text) (p.answers (λ o. p.refuses o))) tt takes.tolds takes.told };
         bad = λ e. absurd (omega (arith, e, is));
+        settled = λ e. absurd (omega (arith, e, is));
         is_bad = λ not some. absurd (none_some (bad_line (said_of text)) (p.answers not) some);
         other = λ e. absurd (omega (arith, e, is));
         is_other = λ o. absurd (p.refuses o);
         formatted = λ e. absurd (omega (arith, e, is));
         full = λ e. absurd (omega (arith, e, is));
+        is_full = λ said not' tolds more told lacks. absurd (lacks_none rules Z (says rules scripts) H items old new before mid [] (p.takes tt) (p.idle said tt) tolds more told lacks);
       }
   run_answers (Ok n) p (inr ended) formatted =
       let is = ended.0 in record {
         headline = p.keeps;
         whole = λ e. absurd (omega (arith, e, is));
         bad = λ e. absurd (omega (arith, e, is));
+        settled = λ e. absurd (omega (arith, e, is));
         is_bad = λ not some. absurd (none_some (bad_line (said_of text)) (p.answers not) some);
         other = λ e. absurd (omega (arith, e, is));
         is_other = λ o. absurd (p.refuses o);
         formatted = λ e. absurd (omega (arith, e, is));
         full = λ e. absurd (omega (arith, e, is));
+        is_full = λ said not' tolds more told lacks. inr (inr (inl is));
       }
   run_answers (Err Unformatted) p ended formatted = absurd (formatted refl)
   run_answers (Err (Line number)) p ended formatted =
@@ -104,11 +122,13 @@ module _ {I M : Type 0} (rules : Rules I) (view : M → MachineView I) (scripts 
         headline = p.keeps;
         whole = λ e. absurd (omega (arith, e, is));
         bad = λ e. (number, p.answers not, stops_on rules scripts Z H items old new before mid after w0 w1 w2 (bad_line_line number) later (p.takes tt) ended.2 (told_or_not before));
+        settled = λ e said tolds told. p.idle said tt tolds told;
         is_bad = λ not some. inl is;
         other = λ e. absurd (omega (arith, e, is));
         is_other = λ o. absurd (p.refuses o);
         formatted = λ e. absurd (omega (arith, e, is));
         full = λ e. absurd (omega (arith, e, is));
+        is_full = λ said not' tolds more told lacks. absurd (lacks_none rules Z (says rules scripts) H items old new before mid [] (p.takes tt) (p.idle said tt) tolds more told lacks);
       }
   run_answers (Err (Unfinished id count)) p ended formatted =
       let is = ended.0 in
@@ -117,11 +137,13 @@ module _ {I M : Type 0} (rules : Rules I) (view : M → MachineView I) (scripts 
         headline = p.keeps;
         whole = λ e. absurd (omega (arith, e, is));
         bad = λ e. absurd (omega (arith, e, is));
+        settled = λ e. absurd (omega (arith, e, is));
         is_bad = λ not some. absurd (not o);
         other = λ e. (o, (id, count, p.refuses o, stops_on rules scripts Z H items old new before mid after w0 w1 w2 (unfinished_line id count) later (p.takes tt) ended.2 (told_or_not before)));
         is_other = λ o. inl is;
         formatted = λ e. absurd (omega (arith, e, is));
         full = λ e. absurd (omega (arith, e, is));
+        is_full = λ said not' tolds more told lacks. absurd (not' o);
       }
   run_answers (Err Input) p ended formatted =
       let is = ended.0 in
@@ -129,11 +151,13 @@ module _ {I M : Type 0} (rules : Rules I) (view : M → MachineView I) (scripts 
         headline = p.keeps;
         whole = λ e. absurd (omega (arith, e, is));
         bad = λ e. absurd (omega (arith, e, is));
+        settled = λ e. absurd (omega (arith, e, is));
         is_bad = λ not some. inr (inl is);
         other = λ e. absurd (omega (arith, e, is));
         is_other = λ o. inr (inl is);
         formatted = λ e. absurd (omega (arith, e, is));
         full = λ e. absurd (omega (arith, e, is));
+        is_full = λ said not' tolds more told lacks. inl is;
       }
   run_answers (Err Disk) p ended formatted =
       let is = ended.0 in
@@ -141,11 +165,13 @@ module _ {I M : Type 0} (rules : Rules I) (view : M → MachineView I) (scripts 
         headline = p.keeps;
         whole = λ e. absurd (omega (arith, e, is));
         bad = λ e. absurd (omega (arith, e, is));
+        settled = λ e. absurd (omega (arith, e, is));
         is_bad = λ not some. inr (inr (inl is));
         other = λ e. absurd (omega (arith, e, is));
         is_other = λ o. inr (inr (inl is));
         formatted = λ e. absurd (omega (arith, e, is));
         full = λ e. absurd (omega (arith, e, is));
+        is_full = λ said not' tolds more told lacks. inr (inl is);
       }
   run_answers (Err Output) p ended formatted =
       let is = ended.0 in
@@ -153,11 +179,13 @@ module _ {I M : Type 0} (rules : Rules I) (view : M → MachineView I) (scripts 
         headline = p.keeps;
         whole = λ e. absurd (omega (arith, e, is));
         bad = λ e. absurd (omega (arith, e, is));
+        settled = λ e. absurd (omega (arith, e, is));
         is_bad = λ not some. inr (inr (inr (inl is)));
         other = λ e. absurd (omega (arith, e, is));
         is_other = λ o. absurd (p.refuses o);
         formatted = λ e. absurd (omega (arith, e, is));
         full = λ e. absurd (omega (arith, e, is));
+        is_full = λ said not' tolds more told lacks. inr (inr (inl is));
       }
   run_answers (Err Full) p ended formatted =
       let is = ended.0 in
@@ -165,11 +193,13 @@ module _ {I M : Type 0} (rules : Rules I) (view : M → MachineView I) (scripts 
         headline = p.keeps;
         whole = λ e. absurd (omega (arith, e, is));
         bad = λ e. absurd (omega (arith, e, is));
+        settled = λ e. absurd (omega (arith, e, is));
         is_bad = λ not some. inr (inr (inr (inr (inl is))));
         other = λ e. absurd (omega (arith, e, is));
         is_other = λ o. inr (inr (inr (inl is)));
         formatted = λ e. absurd (omega (arith, e, is));
         full = λ e. p.full refl;
+        is_full = λ said not' tolds more told lacks. inr (inr (inr (inl is)));
       }
   run_answers (Err Memory) p ended formatted =
       let is = ended.0 in
@@ -177,17 +207,30 @@ module _ {I M : Type 0} (rules : Rules I) (view : M → MachineView I) (scripts 
         headline = p.keeps;
         whole = λ e. absurd (omega (arith, e, is));
         bad = λ e. absurd (omega (arith, e, is));
+        settled = λ e. absurd (omega (arith, e, is));
         is_bad = λ not some. inr (inr (inr (inr (inr (inl is)))));
         other = λ e. absurd (omega (arith, e, is));
         is_other = λ o. inr (inr (inr (inr (inl is))));
         formatted = λ e. absurd (omega (arith, e, is));
         full = λ e. absurd (omega (arith, e, is));
+        is_full = λ said not' tolds more told lacks. inr (inr (inr (inr (inl is))));
       }
 
 -- each status comes from what ended the run
 status_ok : (mid after : Option (List ℕ)) (w1 w2 n status : ℕ) → Finishes mid after w1 w2 (Ok n) status → (status ≡ 0) ⊎ ((status ≡ 8) × Rose w1 w2)
 status_ok mid after w1 w2 n status (inl ended) = inl ended.0
 status_ok mid after w1 w2 n status (inr ended) = inr (ended.0, ended.2)
+
+-- where the next entry was too much, it lacks room
+full_lacks : {I M : Type 0} (rules : Rules I) (view : M → MachineView I) (Z : List ℕ) (H : List (Entry I)) (all : List I) (old new : BoardView) → IsFullAt rules view Z H all old new ⊎ ((machine : M) × (item : I) × (view machine).over item)
+    → HasNoLimit view → (tolds : List Told) × LacksRoom rules Z H all tolds
+full_lacks rules view Z H all old new (inr over) limit = absurd (limit over.0 over.1 over.2)
+full_lacks {I} {M} rules view Z H all old new (inl f) limit = (f.tolds ++ f.more, record { entries = f.entries; next = f.next; is_prefix = f.is_prefix; no_room = of f.next f.too_much })
+  where
+    of : (e : Entry I) → IsTooMuch rules view Z (H ++ f.entries) e → HasNoRoomBehind rules Z (H ++ f.entries) e
+    of e (inl none) = none
+    of (Item item) (inr over) = absurd (limit over.0 item over.2)
+    of (Outcome told) (inr over) = absurd over.2
 
 module _ {I M : Type 0} (rules : Rules I) (view : M → MachineView I) (scripts : ScriptRules I) (old new : BoardView) (source : Option (List ℕ)) (r0 r1 : ℕ) (before mid after : Option (List ℕ)) (w0 w1 w2 : ℕ) (later : w0 ≤ w1) (status : ℕ) where
   pub run_call : (end : Result ℕ Stop)
@@ -208,6 +251,7 @@ module _ {I M : Type 0} (rules : Rules I) (view : M → MachineView I) (scripts 
         disk = λ e. absurd (omega (arith, e, is));
         output = λ e. absurd (omega (arith, e, is));
         memory = λ e. absurd (omega (arith, e, is));
+        complete = λ tells Z H text lawful stands told may. inl (inl is);
       }
   run_call (Ok n) performs (inr e) unformatted nothing memory disk output input =
       let is = e.0 in
@@ -220,6 +264,7 @@ module _ {I M : Type 0} (rules : Rules I) (view : M → MachineView I) (scripts 
         disk = λ e. absurd (omega (arith, e, is));
         output = λ s. omega (arith, later, e.2);
         memory = λ e. absurd (omega (arith, e, is));
+        complete = λ tells Z H text lawful stands told may. inr (inr (inr (omega (arith, later, e.2))));
       }
   run_call (Err Unformatted) performs ended unformatted nothing memory disk output input =
       let is = ended.0 in
@@ -232,6 +277,7 @@ module _ {I M : Type 0} (rules : Rules I) (view : M → MachineView I) (scripts 
         disk = λ e. absurd (omega (arith, e, is));
         output = λ e. absurd (omega (arith, e, is));
         memory = λ e. absurd (omega (arith, e, is));
+        complete = λ tells Z H text lawful stands told may. absurd (unformatted refl tells Z H lawful stands);
       }
   run_call (Err (Line number)) performs ended unformatted nothing memory disk output input =
       let is = ended.0 in
@@ -244,6 +290,7 @@ module _ {I M : Type 0} (rules : Rules I) (view : M → MachineView I) (scripts 
         disk = λ e. absurd (omega (arith, e, is));
         output = λ e. absurd (omega (arith, e, is));
         memory = λ e. absurd (omega (arith, e, is));
+        complete = λ tells Z H text lawful stands told may. let p = performs tells Z H text lawful stands told in let clash : None ≡ Some number = sym may.good ∙ p.answers may.no_other in absurd (cc clash);
       }
   run_call (Err (Unfinished id count)) performs ended unformatted nothing memory disk output input =
       let is = ended.0 in
@@ -256,6 +303,7 @@ module _ {I M : Type 0} (rules : Rules I) (view : M → MachineView I) (scripts 
         disk = λ e. absurd (omega (arith, e, is));
         output = λ e. absurd (omega (arith, e, is));
         memory = λ e. absurd (omega (arith, e, is));
+        complete = λ tells Z H text lawful stands told may. absurd (may.no_other ((performs tells Z H text lawful stands told).other id count refl));
       }
   run_call (Err Input) performs ended unformatted nothing memory disk output input =
       let is = ended.0 in
@@ -268,6 +316,7 @@ module _ {I M : Type 0} (rules : Rules I) (view : M → MachineView I) (scripts 
         disk = λ e. absurd (omega (arith, e, is));
         output = λ e. absurd (omega (arith, e, is));
         memory = λ e. absurd (omega (arith, e, is));
+        complete = λ tells Z H text lawful stands told may. inr (inl (input refl));
       }
   run_call (Err Disk) performs ended unformatted nothing memory disk output input =
       let is = ended.0 in
@@ -280,6 +329,7 @@ module _ {I M : Type 0} (rules : Rules I) (view : M → MachineView I) (scripts 
         disk = λ s. disk refl;
         output = λ e. absurd (omega (arith, e, is));
         memory = λ e. absurd (omega (arith, e, is));
+        complete = λ tells Z H text lawful stands told may. inr (inr (inl (disk refl)));
       }
   run_call (Err Output) performs ended unformatted nothing memory disk output input =
       let is = ended.0 in
@@ -292,6 +342,7 @@ module _ {I M : Type 0} (rules : Rules I) (view : M → MachineView I) (scripts 
         disk = λ e. absurd (omega (arith, e, is));
         output = λ s. omega (arith, output refl, ended.1);
         memory = λ e. absurd (omega (arith, e, is));
+        complete = λ tells Z H text lawful stands told may. inr (inr (inr (omega (arith, output refl, ended.1))));
       }
   run_call (Err Full) performs ended unformatted nothing memory disk output input =
       let is = ended.0 in
@@ -304,6 +355,7 @@ module _ {I M : Type 0} (rules : Rules I) (view : M → MachineView I) (scripts 
         disk = λ e. absurd (omega (arith, e, is));
         output = λ e. absurd (omega (arith, e, is));
         memory = λ e. absurd (omega (arith, e, is));
+        complete = λ tells Z H text lawful stands told may. let lacks = full_lacks rules view Z H (items_of_text scripts text H) old new ((performs tells Z H text lawful stands told).full refl) may.no_limit in absurd (may.room lacks.0 lacks.1);
       }
   run_call (Err Memory) performs ended unformatted nothing memory disk output input =
       let is = ended.0 in
@@ -316,4 +368,5 @@ module _ {I M : Type 0} (rules : Rules I) (view : M → MachineView I) (scripts 
         disk = λ e. absurd (omega (arith, e, is));
         output = λ e. absurd (omega (arith, e, is));
         memory = λ s. memory refl;
+        complete = λ tells Z H text lawful stands told may. inl (inr (inl is));
       }

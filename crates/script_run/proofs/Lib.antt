@@ -5,4 +5,5 @@ pub mod ScriptsLemmas
 pub mod TakesLemmas
 pub mod PlayLemmas
 pub mod TopLemmas
+pub mod Lacks
 pub mod EndLemmas

@@ -1,6 +1,6 @@
 -- A whole script.
 use Rattle.std.proofs.Common.{◌≡◌, ◌⊎◌, inl, inr, ⊎_elim, ℕ, zero, suc, ◌+◌, ◌<◌, ◌≤◌, List, [], ◌∷◌, ◌++◌, length, Option, Some, None, IsTrue, refl, sym, ◌∙◌, ap, subst, arith, append_assoc, length-append, Result, Ok, Err, OnOk, IfOk, Bool, true, false, ◌&&◌, nat_eq}
-use Rattle.std.specs.Prelude.{IsErrOf, IsFalse, IfSome}
+use Rattle.std.specs.Prelude.{IsErrOf, IsFalse, IsSome, IfSome}
 use Rattle.std.proofs.lemmas.List.{append-nil}
 use Rattle.std.proofs.lemmas.Bool.Decides.{nat_tests}
 use Rattle.board_core.specs.Board.{BoardView, CrashState, IsSound, LeavesOnly}
@@ -23,7 +23,7 @@ use Rattle.script_run.specs.declared.course.Course.{Course}
 use Rattle.script_run.specs.declared.course.Course.TheVariants.{Over, GoesOn, Begins}
 use Rattle.pef_engine.specs.Scripts.{ScriptRules, IsScripted, Awaits, IsUnfinished, IsWithin}
 use Rattle.script_run.specs.Items.{is_same, IsOther, items_after, items_of_text, rest_of}
-use Rattle.script_run.specs.Run.{Runs, StopsFull, RunsGiven, IsTaken, Answers, IsIdle, MovesOn, IsReadyFor}
+use Rattle.script_run.specs.Run.{Runs, StopsFull, RunsGiven, IsTaken, Answers, MovesOn, IsReadyFor}
 use Rattle.script_run.specs.Course.{IsCourse, IsAnother, GivesCourse, GivesHead, TakesCourse, items_on}
 use Rattle.script_run.specs.Playing.{Plays}
 use Rattle.script_run.proofs.RunLemmas.{runs_start, runs_compose, more_items, moments_after}
@@ -70,7 +70,6 @@ module _ {I M : Type 0} (rules : Rules I) (view : M → MachineView I) (says : L
     number = subst (λ l. IfOk n (λ k. k ≡ length l)) (ap (λ i. i ++ more) (sym same.1) ∙ is) q.number;
     moments = moments_after rules view says Z H items more [] all start now new engine one two p q.moments (ap (λ l. items ++ l) (append-nil more) ∙ is);
     runs = λ t. subst (λ i. Runs rules view says Z H i start new next one three) is (runs_compose rules view says Z H items more start now new engine next one two three p (q.runs t));
-    idle = q.idle;
     full = λ e. full_behind rules view says Z H items more [] all start now new engine next one two three p (q.full e) (ap (λ l. items ++ l) (append-nil more) ∙ is);
   })
   given_behind items more all bad start now new engine next one two three n m p q is (inr ended) =
@@ -80,7 +79,6 @@ module _ {I M : Type 0} (rules : Rules I) (view : M → MachineView I) (says : L
         number = ap (λ k. length items + k) r.number ∙ sym (length-append items more) ∙ ap length is;
         moments = moments_after rules view says Z H items more [] all start now new engine one two p r.moments (ap (λ l. items ++ l) (append-nil more) ∙ is);
         runs = λ t. subst (λ i. Runs rules view says Z H i start new next one three) is (runs_compose rules view says Z H items more start now new engine next one two three p (r.runs tt));
-        idle = r.idle;
         full = λ err. absurd (cc err);
       })
 
@@ -92,19 +90,17 @@ module _ {I M : Type 0} (rules : Rules I) (view : M → MachineView I) (says : L
     number = tt;
     moments = moments_after rules view says Z H items more [] all start now new engine one two p q.moments (ap (λ l. items ++ l) (append-nil more) ∙ is);
     runs = λ t. subst (λ i. Runs rules view says Z H i start new next one three) is (runs_compose rules view says Z H items more start now new engine next one two three p (q.runs t));
-    idle = tt;
     full = λ e. full_behind rules view says Z H items more [] all start now new engine next one two three p (q.full e) (ap (λ l. items ++ l) (append-nil more) ∙ is);
   }
 
   -- nothing more was taken
-  pub given_none : (bad : Option ℕ) (start now : BoardView) (engine : Engine M I) (before after : Option (List ℕ)) (p : Runs rules view says Z H [] start now engine before after) → bad ≡ None → IsIdle rules view Z now engine
+  pub given_none : (bad : Option ℕ) (start now : BoardView) (engine : Engine M I) (before after : Option (List ℕ)) (p : Runs rules view says Z H [] start now engine before after) → bad ≡ None
       → RunsGiven rules view says Z H [] bad start now engine before after (Ok 0)
-  given_none bad start now engine before after p good idle = record {
+  given_none bad start now engine before after p good = record {
     answers = good;
     number = refl;
     moments = p.moments;
     runs = λ t. p;
-    idle = idle;
     full = λ err. absurd (cc err);
   }
 
@@ -115,15 +111,25 @@ module _ {I M : Type 0} (rules : Rules I) (view : M → MachineView I) (says : L
     number = tt;
     moments = p.moments;
     runs = λ t. p;
-    idle = tt;
     full = λ err. absurd (not_full (cc err));
   }
 
   -- a script that was closed before
   pub over_given : (bad : Option ℕ) (start now : BoardView) (engine : Engine M I) (before after : Option (List ℕ)) (result : Result ℕ Stop) (p : Runs rules view says Z H [] start now engine before after) → Answers bad result → IfOk result (λ n. n ≡ 0) → (IsErrOf result Disk → ⊥) × (IsErrOf result Output → ⊥) × (IsErrOf result Full → ⊥) × (IsErrOf result Memory → ⊥) × (IsErrOf result Unformatted → ⊥) × ((id count : ℕ) → IsErrOf result (Unfinished id count) → ⊥)
-      → IsIdle rules view Z now engine → RunsGiven rules view says Z H [] bad start now engine before after result
-  over_given bad start now engine before after (Ok n) p answers none other idle = record { answers = answers; number = none; moments = p.moments; runs = λ t. p; idle = idle; full = λ err. absurd (cc err) }
-  over_given bad start now engine before after (Err stop) p answers none other idle = record { answers = answers; number = tt; moments = p.moments; runs = λ t. p; idle = tt; full = λ err. absurd (other.2 err) }
+      → RunsGiven rules view says Z H [] bad start now engine before after result
+  over_given bad start now engine before after (Ok n) p answers none other = record { answers = answers; number = none; moments = p.moments; runs = λ t. p; full = λ err. absurd (cc err) }
+  over_given bad start now engine before after (Err stop) p answers none other = record { answers = answers; number = tt; moments = p.moments; runs = λ t. p; full = λ err. absurd (other.2 err) }
+
+-- where line 1 isn't a head, nothing was taken behind a good line 1
+pub head_not : (text held : List ℕ) (source : Option (List ℕ)) (stop : Stop) → GivesHead text held source (Err stop) → IsSome (said_of text) → IsTaken {A = ℕ} (Err stop) → ⊥
+head_not text held source (Line number) gives some taken = cc (gives.1, some)
+head_not text held source Input gives some taken = taken
+head_not text held source Unformatted gives some taken = taken
+head_not text held source (Unfinished id count) gives some taken = taken
+head_not text held source Disk gives some taken = taken
+head_not text held source Output gives some taken = taken
+head_not text held source Full gives some taken = taken
+head_not text held source Memory gives some taken = taken
 
 -- a reader that holds nothing has all of the text before it
 pub reader_left : (held : List ℕ) (source : Option (List ℕ)) (text : List ℕ) → held ≡ [] → source ≡ Some text → HasLeft held source text
@@ -239,7 +245,6 @@ module _ {I M : Type 0} (rules : Rules I) (view : M → MachineView I) (says : L
           number = tt;
           moments = r.moments;
           runs = λ t. r;
-          idle = tt;
           full = λ err. absurd (cc err);
         };
         moments = r.moments;

@@ -14,7 +14,7 @@ use Rattle.pef_engine.specs.Rules.{Rules}
 use Rattle.pef_engine.specs.MachineView.{MachineView, IsOver}
 use Rattle.pef_engine.specs.Engine.{Holds, HasRoomForEntry, HasRoomForOutcome}
 use Rattle.script_run.specs.Run.{Runs, StopsFull, ComesNext}
-use Rattle.script_run.specs.Room.{HasNoRoomBehind, IsTooMuch}
+use Rattle.script_run.specs.Room.{file_size, HasNoRoomBehind, IsTooMuch}
 use Rattle.script_run.proofs.RunLemmas.{runs_start, start_entries, runs_compose, compose_entries}
 
 module _ {I M : Type 0} (rules : Rules I) (view : M → MachineView I) (Z : List ℕ) (H : List (Entry I)) (now : BoardView) (engine : Engine M I) (holds : Holds rules view Z H now engine) where
@@ -35,23 +35,29 @@ module _ {I M : Type 0} (rules : Rules I) (view : M → MachineView I) (Z : List
       more : (n : ℕ) → (n + 1 ≤ 16777216 → ⊥) → 2 ^ 24 < n + 1
       more n none = omega (arith, none)
 
+  pub had_room : (e : Entry I) → HasRoomForEntry rules engine e → file_size rules Z (H ++ e ∷ []) ≤ 2 ^ 24
+  had_room e has = rw (with_entry e) (fewer (engine.journal.place + 3 + length (rules.encode e)) (omega (arith, has)))
+    where
+      fewer : (n : ℕ) → n + 1 ≤ 16777216 → n + 1 ≤ 2 ^ 24
+      fewer n le = omega (arith, le)
+
   pub too_much_item : (item : I) → (IsOver (view engine.machine) (Item item) ⊎ (HasRoomForEntry rules engine (Item item) → ⊥)) → IsTooMuch rules view Z H (Item item)
   too_much_item item why = ⊎_elim (λ over. inr (engine.machine, holds.shows, over)) (λ none. inl (no_room (Item item) none)) why
 
   pub too_much_outcome : ((one other : Told) → length (rules.encode (Outcome one)) ≡ length (rules.encode (Outcome other))) → (HasRoomForOutcome rules engine → ⊥) → IsTooMuch rules view Z H (Outcome Done)
   too_much_outcome same none = inl (no_room (Outcome Done) (λ fits. none (λ told. omega (arith, fits, same told Done))))
 
-module _ {I M : Type 0} (rules : Rules I) (view : M → MachineView I) (line : List ℕ → List (Entry I) → Entry I → List ℕ) (Z : List ℕ) (H : List (Entry I)) where
+module _ {I M : Type 0} (rules : Rules I) (view : M → MachineView I) (says : List ℕ → List (Entry I) → Entry I → List ℕ) (Z : List ℕ) (H : List (Entry I)) where
   pub comes_more : (G : List (Entry I)) (items more : List I) (e : Entry I) → ComesNext rules Z G items e → ComesNext rules Z G (items ++ more) e
   comes_more G items more (Item item) comes = (comes.0, comes.1 ++ more, ap (λ l. l ++ more) comes.2)
   comes_more G items more (Outcome told) comes = comes
 
   -- a run that found no room, behind another one
-  pub full_behind : (items more rest all : List I) (start now new : BoardView) (engine next : Engine M I) (one two three : Option (List ℕ)) (p : Runs rules view line Z H items start now engine one two)
-      → StopsFull rules view line Z (H ++ p.entries) more now new next two three → items ++ (more ++ rest) ≡ all → StopsFull rules view line Z H all start new next one three
+  pub full_behind : (items more rest all : List I) (start now new : BoardView) (engine next : Engine M I) (one two three : Option (List ℕ)) (p : Runs rules view says Z H items start now engine one two)
+      → StopsFull rules view says Z (H ++ p.entries) more now new next two three → items ++ (more ++ rest) ≡ all → StopsFull rules view says Z H all start new next one three
   full_behind items more rest all start now new engine next one two three p q is =
-      let whole = runs_compose rules view line Z H items q.so_far start now new engine next one two three p q.runs in
-      let entries = compose_entries rules view line Z H items q.so_far start now new engine next one two three p q.runs in
+      let whole = runs_compose rules view says Z H items q.so_far start now new engine next one two three p q.runs in
+      let entries = compose_entries rules view says Z H items q.so_far start now new engine next one two three p q.runs in
       let back : (H ++ p.entries) ++ q.runs.entries ≡ H ++ whole.entries = append_assoc H p.entries q.runs.entries ∙ ap (λ l. H ++ l) (sym entries) in record {
         so_far = items ++ q.so_far;
         more = q.more ++ rest;
@@ -63,10 +69,10 @@ module _ {I M : Type 0} (rules : Rules I) (view : M → MachineView I) (line : L
       }
 
   -- nothing changed since these items were taken, and the next entry has no room
-  pub full_now : (items : List I) (start now new : BoardView) (engine next : Engine M I) (before after : Option (List ℕ)) (p : Runs rules view line Z H items start now engine before after) → new ≡ now → next ≡ engine
-      → (e : Entry I) → ComesNext rules Z (H ++ p.entries) [] e → IsTooMuch rules view Z (H ++ p.entries) e → StopsFull rules view line Z H items start new next before after
+  pub full_now : (items : List I) (start now new : BoardView) (engine next : Engine M I) (before after : Option (List ℕ)) (p : Runs rules view says Z H items start now engine before after) → new ≡ now → next ≡ engine
+      → (e : Entry I) → ComesNext rules Z (H ++ p.entries) [] e → IsTooMuch rules view Z (H ++ p.entries) e → StopsFull rules view says Z H items start new next before after
   full_now items start now new engine next before after p same same' e comes too_much =
-      let back : StopsFull rules view line Z H items start now engine before after = record {
+      let back : StopsFull rules view says Z H items start now engine before after = record {
         so_far = items;
         more = [];
         split = append-nil items;
@@ -75,14 +81,14 @@ module _ {I M : Type 0} (rules : Rules I) (view : M → MachineView I) (line : L
         comes = comes;
         too_much = too_much;
       } in
-      subst (λ v. StopsFull rules view line Z H items start v next before after) (sym same) (subst (λ n. StopsFull rules view line Z H items start now n before after) (sym same') back)
+      subst (λ v. StopsFull rules view says Z H items start v next before after) (sym same) (subst (λ n. StopsFull rules view says Z H items start now n before after) (sym same') back)
 
   -- nothing was taken, and the item has no room
   pub full_at_once : (item : I) (now : BoardView) (engine : Engine M I) (written : Option (List ℕ)) → IsSound now → IsTrue now.tells → Holds rules view Z H now engine → rules.pending Z H ≡ None → IsTooMuch rules view Z H (Item item)
-      → StopsFull rules view line Z H (item ∷ []) now now engine written written
+      → StopsFull rules view says Z H (item ∷ []) now now engine written written
   full_at_once item now engine written sound tells holds idle too_much =
-      let r = runs_start rules view line Z H now engine written sound tells holds in
-      let back : H ≡ H ++ r.entries = sym (append-nil H) ∙ ap (λ l. H ++ l) (sym (start_entries rules view line Z H now engine written sound tells holds)) in record {
+      let r = runs_start rules view says Z H now engine written sound tells holds in
+      let back : H ≡ H ++ r.entries = sym (append-nil H) ∙ ap (λ l. H ++ l) (sym (start_entries rules view says Z H now engine written sound tells holds)) in record {
         so_far = [];
         more = item ∷ [];
         split = refl;

@@ -1,5 +1,5 @@
 -- One call more of a run.
-use Rattle.std.proofs.Common.{◌≡◌, ◌⊎◌, inl, inr, ⊎_elim, ℕ, ◌+◌, ◌≤◌, List, [], ◌∷◌, ◌++◌, length, map, Option, Some, None, IsTrue, is_some, false, refl, sym, ◌∙◌, ap, subst, arith, append_assoc, Result, Ok, Err, OnOk, IfOk, IsErrOf}
+use Rattle.std.proofs.Common.{◌≡◌, ◌⊎◌, inl, inr, ⊎_elim, ℕ, ◌+◌, ◌≤◌, ◌^◌, List, [], ◌∷◌, ◌++◌, length, map, Option, Some, None, IsTrue, is_some, false, refl, sym, ◌∙◌, ap, subst, arith, append_assoc, Result, Ok, Err, OnOk, IfOk, IsErrOf}
 use Rattle.std.proofs.lemmas.List.{append-nil, map-append}
 use Rattle.board_core.specs.declared.step.Step.{Step}
 use Rattle.board_core.specs.declared.step.Told.{Told}
@@ -14,6 +14,7 @@ use Rattle.pef_engine.specs.MachineView.{MachineView, Agrees}
 use Rattle.pef_engine.specs.CrashFree.{LeavesPrefix, prescribed, option_list, entry_items, entry_tolds, items_of}
 use Rattle.pef_engine.specs.Engine.{Holds, Settled}
 use Rattle.script_run.specs.Report.{report_from}
+use Rattle.script_run.specs.Room.{file_size, HadRoom}
 use Rattle.script_run.specs.Run.{Runs}
 use Rattle.pef_engine.proofs.Prefixes.{prescribed-append}
 use Rattle.pef_engine.proofs.Stored.{images_stand, nothing_moments}
@@ -51,15 +52,20 @@ appends_ok octets None (Some new) result appends = absurd appends
 appends_ok octets None None (Ok t) appends = λ o is. absurd (cc is)
 appends_ok octets None None (Err e) appends = tt
 
-module _ {I M : Type 0} (rules : Rules I) (view : M → MachineView I) (line : List ℕ → List (Entry I) → Entry I → List ℕ) (Z : List ℕ) where
-  report-append : (H K L : List (Entry I)) → report_from line Z H (K ++ L) ≡ report_from line Z H K ++ report_from line Z (H ++ K) L
-  report-append H [] L = ap (λ h. report_from line Z h L) (sym (append-nil H))
+module _ {I M : Type 0} (rules : Rules I) (view : M → MachineView I) (says : List ℕ → List (Entry I) → Entry I → List ℕ) (Z : List ℕ) where
+  room_compose : (H K L : List (Entry I)) → HadRoom rules Z H K → HadRoom rules Z (H ++ K) L → HadRoom rules Z H (K ++ L)
+  room_compose H [] L first second = subst (λ h. HadRoom rules Z h L) (append-nil H) second
+  room_compose H (e ∷ K) [] first second = subst (HadRoom rules Z H) (sym (append-nil (e ∷ K))) first
+  room_compose H (e ∷ K) (l ∷ L) first second = subst (λ G. file_size rules Z G ≤ 2 ^ 24) (append_assoc H (e ∷ K) (l ∷ L)) second
+
+  report-append : (H K L : List (Entry I)) → report_from says Z H (K ++ L) ≡ report_from says Z H K ++ report_from says Z (H ++ K) L
+  report-append H [] L = ap (λ h. report_from says Z h L) (sym (append-nil H))
   report-append H (e ∷ K) L =
-      ap (λ l. line Z H e ++ l) (report-append (H ++ e ∷ []) K L ∙ ap (λ h. report_from line Z (H ++ e ∷ []) K ++ report_from line Z h L) (append_assoc H (e ∷ []) K))
-      ∙ sym (append_assoc (line Z H e) (report_from line Z (H ++ e ∷ []) K) (report_from line Z (H ++ e ∷ K) L))
+      ap (λ l. says Z H e ++ l) (report-append (H ++ e ∷ []) K L ∙ ap (λ h. report_from says Z (H ++ e ∷ []) K ++ report_from says Z h L) (append_assoc H (e ∷ []) K))
+      ∙ sym (append_assoc (says Z H e) (report_from says Z (H ++ e ∷ []) K) (report_from says Z (H ++ e ∷ K) L))
 
   -- nothing has been done
-  pub runs_start : (H : List (Entry I)) (start : BoardView) (engine : Engine M I) (written : Option (List ℕ)) → IsSound start → IsTrue start.tells → Holds rules view Z H start engine → Runs rules view line Z H [] start start engine written written
+  pub runs_start : (H : List (Entry I)) (start : BoardView) (engine : Engine M I) (written : Option (List ℕ)) → IsSound start → IsTrue start.tells → Holds rules view Z H start engine → Runs rules view says Z H [] start start engine written written
   runs_start H start engine written sound tells holds = record {
     entries = [];
     lawful = tt;
@@ -70,6 +76,7 @@ module _ {I M : Type 0} (rules : Rules I) (view : M → MachineView I) (line : L
     told = sym (append-nil (tolds_of start.sent));
     prescribes = ap (prescribed rules Z) (append-nil H) ∙ sym (append-nil (prescribed rules Z H));
     moments = nothing_moments rules Z H start [] sound tells (images_stand _ _ _ start engine.journal holds.stored);
+    room = tt;
     written = λ old is. is ∙ ap Some (sym (append-nil old));
   }
 
@@ -80,7 +87,7 @@ module _ {I M : Type 0} (rules : Rules I) (view : M → MachineView I) (line : L
       (ap (prescribed rules Z) (append-nil H) ∙ sym (append-nil (prescribed rules Z H))) (subst (λ h. LeavesPrefix rules Z h start.sent items left) (sym (append-nil H)) here)
 
   -- the moments of one call more
-  pub moments_behind : (H : List (Entry I)) (items more : List I) (start now new : BoardView) (engine : Engine M I) (before after : Option (List ℕ)) (p : Runs rules view line Z H items start now engine before after)
+  pub moments_behind : (H : List (Entry I)) (items more : List I) (start now new : BoardView) (engine : Engine M I) (before after : Option (List ℕ)) (p : Runs rules view says Z H items start now engine before after)
       → LeavesOnly now new (LeavesPrefix rules Z (H ++ p.entries) now.sent more) → LeavesOnly start new (LeavesPrefix rules Z H start.sent (items ++ more))
   moments_behind H items more start now new engine before after p later =
       leaves_compose rules Z start now new (LeavesPrefix rules Z H start.sent (items ++ more)) (LeavesPrefix rules Z (H ++ p.entries) now.sent more)
@@ -94,8 +101,8 @@ module _ {I M : Type 0} (rules : Rules I) (view : M → MachineView I) (line : L
       (ap (λ l. l ++ more) (sym p.taken) ∙ ap (λ l. entry_items p.entries ++ l) (sym (append-nil more))) p.issued p.told p.prescribes q)
 
   -- one run behind another
-  pub runs_compose : (H : List (Entry I)) (items more : List I) (start now new : BoardView) (engine next : Engine M I) (one two three : Option (List ℕ)) (p : Runs rules view line Z H items start now engine one two)
-      → Runs rules view line Z (H ++ p.entries) more now new next two three → Runs rules view line Z H (items ++ more) start new next one three
+  pub runs_compose : (H : List (Entry I)) (items more : List I) (start now new : BoardView) (engine next : Engine M I) (one two three : Option (List ℕ)) (p : Runs rules view says Z H items start now engine one two)
+      → Runs rules view says Z (H ++ p.entries) more now new next two three → Runs rules view says Z H (items ++ more) start new next one three
   runs_compose H items more start now new engine next one two three p q = record {
     entries = p.entries ++ q.entries;
     lawful = lawful_compose rules Z H p.entries q.entries p.lawful q.lawful;
@@ -106,14 +113,15 @@ module _ {I M : Type 0} (rules : Rules I) (view : M → MachineView I) (line : L
     told = q.told ∙ ap (λ l. l ++ entry_tolds q.entries) p.told ∙ append_assoc (tolds_of start.sent) (entry_tolds p.entries) (entry_tolds q.entries) ∙ ap (λ l. tolds_of start.sent ++ l) (sym (entry_tolds-append p.entries q.entries));
     prescribes = ap (prescribed rules Z) (sym (append_assoc H p.entries q.entries)) ∙ q.prescribes ∙ ap (λ l. l ++ q.steps) p.prescribes ∙ append_assoc (prescribed rules Z H) p.steps q.steps;
     moments = moments_behind H items more start now new engine one two p q.moments;
-    written = λ old is. q.written (old ++ report_from line Z H p.entries) (p.written old is)
-        ∙ ap Some (append_assoc old (report_from line Z H p.entries) (report_from line Z (H ++ p.entries) q.entries) ∙ ap (λ l. old ++ l) (sym (report-append H p.entries q.entries)));
+    room = room_compose H p.entries q.entries p.room q.room;
+    written = λ old is. q.written (old ++ report_from says Z H p.entries) (p.written old is)
+        ∙ ap Some (append_assoc old (report_from says Z H p.entries) (report_from says Z (H ++ p.entries) q.entries) ∙ ap (λ l. old ++ l) (sym (report-append H p.entries q.entries)));
   }
 
   -- one outcome is stored and said
   pub one_outcome : (H : List (Entry I)) (now new : BoardView) (next : Engine M I) (before after : Option (List ℕ)) (told : Told) (engine : Engine M I) → Settled rules view Z H now new next (Some told)
-      → LeavesOnly now new (LeavesPrefix rules Z H now.sent []) → ((old : List ℕ) → before ≡ Some old → after ≡ Some (old ++ line Z H (Outcome told))) → Runs rules view line Z H [] now new next before after
-  one_outcome H now new next before after told engine settled moments said =
+      → file_size rules Z (H ++ Outcome told ∷ []) ≤ 2 ^ 24 → LeavesOnly now new (LeavesPrefix rules Z H now.sent []) → ((old : List ℕ) → before ≡ Some old → after ≡ Some (old ++ says Z H (Outcome told))) → Runs rules view says Z H [] now new next before after
+  one_outcome H now new next before after told engine settled room moments said =
       let one : Sent = record { step = settled.0; told = told } in record {
         entries = Outcome told ∷ [];
         lawful = (ap is_some settled.1, tt);
@@ -124,11 +132,12 @@ module _ {I M : Type 0} (rules : Rules I) (view : M → MachineView I) (line : L
         told = ap tolds_of settled.2 ∙ map-append (λ (s : Sent). s.told) now.sent (one ∷ []);
         prescribes = prescribed-append rules Z H (Outcome told ∷ []) ∙ ap (λ o. prescribed rules Z H ++ (option_list o ++ [])) settled.1;
         moments = moments;
-        written = λ old is. said old is ∙ ap (λ l. Some (old ++ l)) (sym (append-nil (line Z H (Outcome told))));
+        room = room;
+        written = λ old is. said old is ∙ ap (λ l. Some (old ++ l)) (sym (append-nil (says Z H (Outcome told))));
       }
 
   -- nothing is due
-  pub one_none : (H : List (Entry I)) (now new : BoardView) (next : Engine M I) (written : Option (List ℕ)) → Settled rules view Z H now new next None → LeavesOnly now new (LeavesPrefix rules Z H now.sent []) → Runs rules view line Z H [] now new next written written
+  pub one_none : (H : List (Entry I)) (now new : BoardView) (next : Engine M I) (written : Option (List ℕ)) → Settled rules view Z H now new next None → LeavesOnly now new (LeavesPrefix rules Z H now.sent []) → Runs rules view says Z H [] now new next written written
   one_none H now new next written settled moments = record {
     entries = [];
     lawful = tt;
@@ -139,13 +148,14 @@ module _ {I M : Type 0} (rules : Rules I) (view : M → MachineView I) (line : L
     told = ap tolds_of settled.2 ∙ sym (append-nil (tolds_of now.sent));
     prescribes = ap (prescribed rules Z) (append-nil H) ∙ sym (append-nil (prescribed rules Z H));
     moments = moments;
+    room = tt;
     written = λ old is. is ∙ ap Some (sym (append-nil old));
   }
 
   -- one item is stored and said
   pub one_item : (H : List (Entry I)) (item : I) (now new : BoardView) (next : Engine M I) (before after : Option (List ℕ)) → Allowed rules Z H (Item item) → Holds rules view Z (H ++ Item item ∷ []) new next → new.sent ≡ now.sent
-      → LeavesOnly now new (LeavesPrefix rules Z H now.sent (item ∷ [])) → ((old : List ℕ) → before ≡ Some old → after ≡ Some (old ++ line Z H (Item item))) → Runs rules view line Z H (item ∷ []) now new next before after
-  one_item H item now new next before after allowed holds sent moments said = record {
+      → file_size rules Z (H ++ Item item ∷ []) ≤ 2 ^ 24 → LeavesOnly now new (LeavesPrefix rules Z H now.sent (item ∷ [])) → ((old : List ℕ) → before ≡ Some old → after ≡ Some (old ++ says Z H (Item item))) → Runs rules view says Z H (item ∷ []) now new next before after
+  one_item H item now new next before after allowed holds sent room moments said = record {
     entries = Item item ∷ [];
     lawful = (allowed, tt);
     taken = refl;
@@ -155,11 +165,12 @@ module _ {I M : Type 0} (rules : Rules I) (view : M → MachineView I) (line : L
     told = ap tolds_of sent ∙ sym (append-nil (tolds_of now.sent));
     prescribes = prescribed-append rules Z H (Item item ∷ []);
     moments = moments;
-    written = λ old is. said old is ∙ ap (λ l. Some (old ++ l)) (sym (append-nil (line Z H (Item item))));
+    room = room;
+    written = λ old is. said old is ∙ ap (λ l. Some (old ++ l)) (sym (append-nil (says Z H (Item item))));
   }
 
-  pub compose_entries : (H : List (Entry I)) (items more : List I) (start now new : BoardView) (engine next : Engine M I) (one two three : Option (List ℕ)) (p : Runs rules view line Z H items start now engine one two)
-      → (q : Runs rules view line Z (H ++ p.entries) more now new next two three) → (runs_compose H items more start now new engine next one two three p q).entries ≡ p.entries ++ q.entries
+  pub compose_entries : (H : List (Entry I)) (items more : List I) (start now new : BoardView) (engine next : Engine M I) (one two three : Option (List ℕ)) (p : Runs rules view says Z H items start now engine one two)
+      → (q : Runs rules view says Z (H ++ p.entries) more now new next two three) → (runs_compose H items more start now new engine next one two three p q).entries ≡ p.entries ++ q.entries
   unfolding runs_compose
   compose_entries H items more start now new engine next one two three p q = refl
 
@@ -168,7 +179,7 @@ module _ {I M : Type 0} (rules : Rules I) (view : M → MachineView I) (line : L
   start_entries H start engine written sound tells holds = refl
 
   -- the moments of a run are those of one with more items
-  pub moments_of : (H : List (Entry I)) (items more all : List I) (start now : BoardView) (engine : Engine M I) (before after : Option (List ℕ)) → Runs rules view line Z H items start now engine before after → items ++ more ≡ all
+  pub moments_of : (H : List (Entry I)) (items more all : List I) (start now : BoardView) (engine : Engine M I) (before after : Option (List ℕ)) → Runs rules view says Z H items start now engine before after → items ++ more ≡ all
       → LeavesOnly start now (LeavesPrefix rules Z H start.sent all)
   moments_of H items more all start now engine before after p is = record {
     later = p.moments.later;
@@ -176,7 +187,7 @@ module _ {I M : Type 0} (rules : Rules I) (view : M → MachineView I) (line : L
     before = λ t left le since. ⊎_elim inl (λ q. inr (subst (λ i. LeavesPrefix rules Z H start.sent i left) is (more_items H start items more left q))) (p.moments.before t left le since);
   }
 
-  pub moments_after : (H : List (Entry I)) (items more rest all : List I) (start now new : BoardView) (engine : Engine M I) (before after : Option (List ℕ)) (p : Runs rules view line Z H items start now engine before after)
+  pub moments_after : (H : List (Entry I)) (items more rest all : List I) (start now new : BoardView) (engine : Engine M I) (before after : Option (List ℕ)) (p : Runs rules view says Z H items start now engine before after)
       → LeavesOnly now new (LeavesPrefix rules Z (H ++ p.entries) now.sent more) → items ++ (more ++ rest) ≡ all → LeavesOnly start new (LeavesPrefix rules Z H start.sent all)
   moments_after H items more rest all start now new engine before after p later is =
       let m = moments_behind H items more start now new engine before after p later in

@@ -1,11 +1,11 @@
 -- A run of lines, one line more.
-use Rattle.std.proofs.Common.{◌≡◌, ◌⊎◌, inl, inr, ⊎_elim, ℕ, zero, suc, ◌+◌, ◌-◌, ◌<◌, ◌≤◌, List, [], ◌∷◌, ◌++◌, length, map, drop, Option, Some, None, IsTrue, refl, sym, ◌∙◌, ap, subst, arith, append_assoc, length-append, Result, Ok, Err, OnOk, IfOk, Bool, true, false, if◌then◌else◌, nat_le}
+use Rattle.std.proofs.Common.{◌≡◌, ◌⊎◌, inl, inr, ⊎_elim, ℕ, zero, suc, ◌+◌, ◌-◌, ◌<◌, ◌≤◌, List, [], ◌∷◌, ◌++◌, length, map, drop, Option, Some, None, IsTrue, is_some, refl, sym, ◌∙◌, ap, subst, arith, append_assoc, length-append, Result, Ok, Err, OnOk, IfOk, Bool, true, false, if◌then◌else◌, nat_le}
 use Rattle.std.proofs.lemmas.List.{append-nil}
-use Rattle.std.specs.Prelude.{IsErrOf}
+use Rattle.std.specs.Prelude.{IsErrOf, IsSome, ◌↔◌}
 use Rattle.board_core.specs.Board.{BoardView, CrashState, IsSound, LeavesOnly, steps_of, tolds_of}
 use Rattle.script_text.specs.Lines.{lines_of}
 use Rattle.script_text.specs.Reading.{HasLeft}
-use Rattle.script_text.specs.Script.{Given, given, given_by, give_event, bad_at, form_of_line, HasNoForm, GivesForm}
+use Rattle.script_text.specs.Script.{Given, given, given_by, give_event, bad_at, form_of_line, HasNoForm}
 use Rattle.script_text.specs.declared.form.Form.{Form}
 use Rattle.script_text.specs.declared.form.Form.TheVariants.{Head, Event as EventForm, End}
 use Rattle.pef_engine.specs.declared.entry.Entry.{Entry}
@@ -18,7 +18,8 @@ use Rattle.script_run.specs.declared.stop.Stop.{Stop}
 use Rattle.script_run.specs.declared.stop.Stop.TheVariants.{Unformatted, Line, Unfinished, Input, Disk, Output, Full, Memory}
 use Rattle.pef_engine.specs.Scripts.{ScriptRules}
 use Rattle.script_run.specs.Items.{rest_of, closing_of}
-use Rattle.script_run.specs.Run.{Runs, StopsFull, IsIdle, IsTaken, Answers, RunsGiven, Takes, IsStepStop}
+use Rattle.script_run.specs.Taking.{GivesOne, GivesEvent}
+use Rattle.script_run.specs.Run.{Runs, StopsFull, IsTaken, Answers, RunsGiven, Takes, Passes, IsStepStop}
 use Rattle.script_run.proofs.RunLemmas.{runs_start, runs_compose, moments_of, moments_after}
 use Rattle.script_run.proofs.RoomLemmas.{full_behind}
 
@@ -87,14 +88,46 @@ step_fault (Unfinished id count) step = absurd step
 step_fault (Line number) step = absurd step
 step_fault Unformatted step = absurd step
 
+pub not_taken : (A : Type 0) (stop : Stop) → IsStepStop stop → IsTaken {A = A} (Err stop) → ⊥
+not_taken A Disk step taken = taken
+not_taken A Output step taken = taken
+not_taken A Full step taken = taken
+not_taken A Memory step taken = taken
+not_taken A Input step taken = step
+not_taken A (Unfinished id count) step taken = step
+not_taken A (Line number) step taken = step
+not_taken A Unformatted step taken = step
+
+-- an event comes exactly where one is due
+pub no_event : {A : Type 0} (event : Option A) (left : ℕ) → (IsSome event ↔ (0 < left)) → event ≡ None → left ≡ 0
+no_event event left due is = zero_or left (λ more. cc (due.1 more, is))
+  where
+    zero_or : (n : ℕ) → (0 < n → ⊥) → n ≡ 0
+    zero_or n none = omega (arith, none)
+
+pub one_event : {A : Type 0} (event : Option A) (left : ℕ) → (IsSome event ↔ (0 < left)) → (x : A) → event ≡ Some x → 0 < left
+one_event event left due x is = due.0 (ap is_some is)
+
+-- lines that are passed over end at a bad one, or at one that can't be read
+pub passes_not : (text : List ℕ) (count : ℕ) (held : List ℕ) (source : Option (List ℕ)) (left number : ℕ) (p : Passes text count held source left number) (next : List ℕ) (later : Option (List ℕ)) (stop : Stop)
+    → GivesEvent p.rest left number next later (Err stop) → Answers {A = Unit {0}} (given (lines_of text) count 2).bad (Err stop)
+passes_not text count held source left number p next later (Line bad) gives = sym p.bad ∙ ap (λ (g : Given). g.bad) gives.1 ∙ ap Some (sym gives.0)
+passes_not text count held source left number p next later Input gives = tt
+passes_not text count held source left number p next later Unformatted gives = tt
+passes_not text count held source left number p next later (Unfinished id n) gives = tt
+passes_not text count held source left number p next later Disk gives = tt
+passes_not text count held source left number p next later Output gives = tt
+passes_not text count held source left number p next later Full gives = tt
+passes_not text count held source left number p next later Memory gives = tt
+
 -- a fault, wherever it comes
 pub fault_given : {I M : Type 0} (rules : Rules I) (view : M → MachineView I) (says : List ℕ → List (Entry I) → Entry I → List ℕ) (Z : List ℕ) (H : List (Entry I)) (all : List I) (bad : Option ℕ) (start now : BoardView) (engine : Engine M I) (before after : Option (List ℕ)) (stop : Stop) → IsFault stop
     → LeavesOnly start now (LeavesPrefix rules Z H start.sent all) → (stop ≡ Full → StopsFull rules view says Z H all start now engine before after) → RunsGiven rules view says Z H all bad start now engine before after (Err stop)
-fault_given rules view says Z H all bad start now engine before after Input fault m full = record { answers = tt; number = tt; moments = m; runs = λ h. absurd h; idle = tt; full = λ err. absurd (cc err) }
-fault_given rules view says Z H all bad start now engine before after Disk fault m full = record { answers = tt; number = tt; moments = m; runs = λ h. absurd h; idle = tt; full = λ err. absurd (cc err) }
-fault_given rules view says Z H all bad start now engine before after Output fault m full = record { answers = tt; number = tt; moments = m; runs = λ h. absurd h; idle = tt; full = λ err. absurd (cc err) }
-fault_given rules view says Z H all bad start now engine before after Memory fault m full = record { answers = tt; number = tt; moments = m; runs = λ h. absurd h; idle = tt; full = λ err. absurd (cc err) }
-fault_given rules view says Z H all bad start now engine before after Full fault m full = record { answers = tt; number = tt; moments = m; runs = λ h. absurd h; idle = tt; full = λ err. full refl }
+fault_given rules view says Z H all bad start now engine before after Input fault m full = record { answers = tt; number = tt; moments = m; runs = λ h. absurd h; full = λ err. absurd (cc err) }
+fault_given rules view says Z H all bad start now engine before after Disk fault m full = record { answers = tt; number = tt; moments = m; runs = λ h. absurd h; full = λ err. absurd (cc err) }
+fault_given rules view says Z H all bad start now engine before after Output fault m full = record { answers = tt; number = tt; moments = m; runs = λ h. absurd h; full = λ err. absurd (cc err) }
+fault_given rules view says Z H all bad start now engine before after Memory fault m full = record { answers = tt; number = tt; moments = m; runs = λ h. absurd h; full = λ err. absurd (cc err) }
+fault_given rules view says Z H all bad start now engine before after Full fault m full = record { answers = tt; number = tt; moments = m; runs = λ h. absurd h; full = λ err. full refl }
 fault_given rules view says Z H all bad start now engine before after (Unfinished id count) fault m full = absurd fault
 fault_given rules view says Z H all bad start now engine before after (Line number) fault m full = absurd fault
 fault_given rules view says Z H all bad start now engine before after Unformatted fault m full = absurd fault
@@ -118,43 +151,40 @@ module _ {I M : Type 0} (rules : Rules I) (view : M → MachineView I) (says : L
 
   -- a line that was taken in an earlier life
   pub takes_skip : (now : BoardView) (engine : Engine M I) (before after : Option (List ℕ)) (held next : List ℕ) (source later : Option (List ℕ)) (skip left number items : ℕ) (octets : List ℕ)
-      → (t : Takes rules view says scripts Z H text count taken start now engine before after held source skip left number items) → GivesForm t.rest next later (Some (EventForm octets)) → 0 < left → 0 < skip
+      → (t : Takes rules view says scripts Z H text count taken start now engine before after held source skip left number items) → GivesOne t.rest left number next later octets → 0 < skip
       → Takes rules view says scripts Z H text count taken start now engine before after next later (skip - 1) (left - 1) (number + 1) items
-  takes_skip now engine before after held next source later skip left number items octets t gives more skipped =
-      let e = given_event t.rest gives.rest gives.line octets left number gives.lines gives.has more in record {
-        so_far = t.so_far;
-        runs = t.runs;
-        rest = gives.rest;
-        unread = gives.left;
-        split = ap (λ l. t.so_far ++ l) (sym (ap (rest_of scripts skip) e ∙ rest_skips scripts skip octets (given (lines_of gives.rest) (left - 1) (number + 1)) skipped)) ∙ t.split;
-        bad = sym (ap (λ (g : Given). g.bad) e) ∙ t.bad;
-        counted = t.counted;
-      }
+  takes_skip now engine before after held next source later skip left number items octets t one skipped = record {
+    so_far = t.so_far;
+    runs = t.runs;
+    rest = one.rest;
+    unread = one.unread;
+    split = ap (λ l. t.so_far ++ l) (sym (ap (rest_of scripts skip) one.gives ∙ rest_skips scripts skip octets (given (lines_of one.rest) (left - 1) (number + 1)) skipped)) ∙ t.split;
+    bad = sym (ap (λ (g : Given). g.bad) one.gives) ∙ t.bad;
+    counted = t.counted;
+  }
 
   -- what is to be taken begins with the event of the next line
   event_first : (now : BoardView) (engine : Engine M I) (before after : Option (List ℕ)) (held next : List ℕ) (source later : Option (List ℕ)) (skip left number items : ℕ) (octets : List ℕ)
-      → (t : Takes rules view says scripts Z H text count taken start now engine before after held source skip left number items) → (gives : GivesForm t.rest next later (Some (EventForm octets))) → 0 < left → skip ≡ 0
-      → t.so_far ++ (scripts.event octets ∷ rest_of scripts skip (given (lines_of gives.rest) (left - 1) (number + 1))) ≡ all
-  event_first now engine before after held next source later skip left number items octets t gives more none =
-      let e = given_event t.rest gives.rest gives.line octets left number gives.lines gives.has more in
-      ap (λ l. t.so_far ++ l) (sym (ap (rest_of scripts skip) e ∙ rest_takes scripts skip octets (given (lines_of gives.rest) (left - 1) (number + 1)) none)) ∙ t.split
+      → (t : Takes rules view says scripts Z H text count taken start now engine before after held source skip left number items) → (one : GivesOne t.rest left number next later octets) → skip ≡ 0
+      → t.so_far ++ (scripts.event octets ∷ rest_of scripts skip (given (lines_of one.rest) (left - 1) (number + 1))) ≡ all
+  event_first now engine before after held next source later skip left number items octets t one none =
+      ap (λ l. t.so_far ++ l) (sym (ap (rest_of scripts skip) one.gives ∙ rest_takes scripts skip octets (given (lines_of one.rest) (left - 1) (number + 1)) none)) ∙ t.split
 
   -- an event is taken
   pub takes_event : (now new : BoardView) (engine after_it : Engine M I) (one two three : Option (List ℕ)) (held next : List ℕ) (source later : Option (List ℕ)) (skip left number items : ℕ) (octets : List ℕ)
-      → (t : Takes rules view says scripts Z H text count taken start now engine one two held source skip left number items) → GivesForm t.rest next later (Some (EventForm octets)) → 0 < left → skip ≡ 0
+      → (t : Takes rules view says scripts Z H text count taken start now engine one two held source skip left number items) → GivesOne t.rest left number next later octets → skip ≡ 0
       → (r : Runs rules view says Z (H ++ t.runs.entries) (scripts.event octets ∷ []) now new after_it two three)
       → Takes rules view says scripts Z H text count taken start new after_it one three next later skip (left - 1) (number + 1) (items + 1)
-  takes_event now new engine after_it one two three held next source later skip left number items octets t gives more none r =
-      let e = given_event t.rest gives.rest gives.line octets left number gives.lines gives.has more in record {
-        so_far = t.so_far ++ scripts.event octets ∷ [];
-        runs = runs_compose rules view says Z H t.so_far (scripts.event octets ∷ []) start now new engine after_it one two three t.runs r;
-        rest = gives.rest;
-        unread = gives.left;
-        split = append_assoc t.so_far (scripts.event octets ∷ []) (rest_of scripts skip (given (lines_of gives.rest) (left - 1) (number + 1)))
-            ∙ event_first now engine one two held next source later skip left number items octets t gives more none;
-        bad = sym (ap (λ (g : Given). g.bad) e) ∙ t.bad;
-        counted = omega (arith, t.counted, length-append t.so_far (scripts.event octets ∷ []));
-      }
+  takes_event now new engine after_it one two three held next source later skip left number items octets t event none r = record {
+    so_far = t.so_far ++ scripts.event octets ∷ [];
+    runs = runs_compose rules view says Z H t.so_far (scripts.event octets ∷ []) start now new engine after_it one two three t.runs r;
+    rest = event.rest;
+    unread = event.unread;
+    split = append_assoc t.so_far (scripts.event octets ∷ []) (rest_of scripts skip (given (lines_of event.rest) (left - 1) (number + 1)))
+        ∙ event_first now engine one two held next source later skip left number items octets t event none;
+    bad = sym (ap (λ (g : Given). g.bad) event.gives) ∙ t.bad;
+    counted = omega (arith, t.counted, length-append t.so_far (scripts.event octets ∷ []));
+  }
 
   -- the same items in another spelling
   same_items : (items : List I) (now : BoardView) (engine : Engine M I) (before after : Option (List ℕ)) → Runs rules view says Z H items start now engine before after → items ≡ all → Runs rules view says Z H all start now engine before after
@@ -170,7 +200,6 @@ module _ {I M : Type 0} (rules : Rules I) (view : M → MachineView I) (says : L
         number = tt;
         moments = moments_of rules view says Z H t.so_far [] all start now engine before after t.runs is;
         runs = λ _. same_items t.so_far now engine before after t.runs (sym (append-nil t.so_far) ∙ is);
-        idle = tt;
         full = λ err. absurd (cc err);
       }
 
@@ -183,48 +212,60 @@ module _ {I M : Type 0} (rules : Rules I) (view : M → MachineView I) (says : L
   takes_moments now engine before after held source skip left number items t =
       moments_of rules view says Z H t.so_far (rest_of scripts skip (given (lines_of t.rest) left number)) all start now engine before after t.runs t.split
 
+  -- the next line is bad, or can't be read
+  pub stops_next : (now : BoardView) (engine : Engine M I) (before after : Option (List ℕ)) (held : List ℕ) (source : Option (List ℕ)) (skip left number items : ℕ)
+      → (t : Takes rules view says scripts Z H text count taken start now engine before after held source skip left number items) → (next : List ℕ) (later : Option (List ℕ)) (stop : Stop)
+      → GivesEvent t.rest left number next later (Err stop) → RunsGiven rules view says Z H all (given (lines_of text) count 2).bad start now engine before after (Err stop)
+  stops_next now engine before after held source skip left number items t next later (Line bad) gives =
+      subst (λ n. RunsGiven rules view says Z H all (given (lines_of text) count 2).bad start now engine before after (Err (Line n))) (sym gives.0) (stops_text now engine before after held source skip left number items t gives.1)
+  stops_next now engine before after held source skip left number items t next later Input gives = fault_text now engine before after Input tt (takes_moments now engine before after held source skip left number items t) (λ e. absurd (cc e))
+  stops_next now engine before after held source skip left number items t next later Unformatted gives = absurd gives
+  stops_next now engine before after held source skip left number items t next later (Unfinished id n) gives = absurd gives
+  stops_next now engine before after held source skip left number items t next later Disk gives = absurd gives
+  stops_next now engine before after held source skip left number items t next later Output gives = absurd gives
+  stops_next now engine before after held source skip left number items t next later Full gives = absurd gives
+  stops_next now engine before after held source skip left number items t next later Memory gives = absurd gives
+
   -- an event is not taken, or not settled
   pub event_fails : (now new : BoardView) (engine after_it : Engine M I) (one two three : Option (List ℕ)) (held next : List ℕ) (source later : Option (List ℕ)) (skip left number items : ℕ) (octets : List ℕ) (stop : Stop)
-      → (t : Takes rules view says scripts Z H text count taken start now engine one two held source skip left number items) → GivesForm t.rest next later (Some (EventForm octets)) → 0 < left → skip ≡ 0 → IsStepStop stop
+      → (t : Takes rules view says scripts Z H text count taken start now engine one two held source skip left number items) → GivesOne t.rest left number next later octets → skip ≡ 0 → IsStepStop stop
       → LeavesOnly now new (LeavesPrefix rules Z (H ++ t.runs.entries) now.sent (scripts.event octets ∷ []))
       → (stop ≡ Full → StopsFull rules view says Z (H ++ t.runs.entries) (scripts.event octets ∷ []) now new after_it two three)
       → RunsGiven rules view says Z H all (given (lines_of text) count 2).bad start new after_it one three (Err stop)
-  event_fails now new engine after_it one two three held next source later skip left number items octets stop t gives more none step m full =
-      let rest = rest_of scripts skip (given (lines_of gives.rest) (left - 1) (number + 1)) in
-      let is = event_first now engine one two held next source later skip left number items octets t gives more none in
+  event_fails now new engine after_it one two three held next source later skip left number items octets stop t event none step m full =
+      let rest = rest_of scripts skip (given (lines_of event.rest) (left - 1) (number + 1)) in
+      let is = event_first now engine one two held next source later skip left number items octets t event none in
       fault_text new after_it one three stop (step_fault stop step)
       (moments_after rules view says Z H t.so_far (scripts.event octets ∷ []) rest all start now new engine one two t.runs m is)
       (λ e. full_behind rules view says Z H t.so_far (scripts.event octets ∷ []) rest all start now new engine after_it one two three t.runs (full e) is)
 
-  close_is : (now : BoardView) (engine : Engine M I) (before after : Option (List ℕ)) (held next : List ℕ) (source later : Option (List ℕ)) (skip left number items : ℕ)
-      → (t : Takes rules view says scripts Z H text count taken start now engine before after held source skip left number items) → GivesForm t.rest next later (Some End) → left ≡ 0 → t.so_far ++ scripts.closing ∷ [] ≡ all
-  close_is now engine before after held next source later skip left number items t gives none =
-      ap (λ l. t.so_far ++ l) (sym (ap (rest_of scripts skip) (given_end t.rest gives.rest gives.line left number gives.lines gives.has none) ∙ rest_ended scripts skip None)) ∙ t.split
+  close_is : (now : BoardView) (engine : Engine M I) (before after : Option (List ℕ)) (held : List ℕ) (source : Option (List ℕ)) (skip left number items : ℕ)
+      → (t : Takes rules view says scripts Z H text count taken start now engine before after held source skip left number items) → given (lines_of t.rest) left number ≡ record { events = []; bad = None } → t.so_far ++ scripts.closing ∷ [] ≡ all
+  close_is now engine before after held source skip left number items t ended = ap (λ l. t.so_far ++ l) (sym (ap (rest_of scripts skip) ended ∙ rest_ended scripts skip None)) ∙ t.split
 
   -- the closing item is taken, and all is done
-  pub ends_text : (now new : BoardView) (engine after_it : Engine M I) (one two three : Option (List ℕ)) (held next : List ℕ) (source later : Option (List ℕ)) (skip left number items : ℕ)
-      → (t : Takes rules view says scripts Z H text count taken start now engine one two held source skip left number items) → GivesForm t.rest next later (Some End) → left ≡ 0
-      → (r : Runs rules view says Z (H ++ t.runs.entries) (scripts.closing ∷ []) now new after_it two three) → IsIdle rules view Z new after_it
+  pub ends_text : (now new : BoardView) (engine after_it : Engine M I) (one two three : Option (List ℕ)) (held : List ℕ) (source : Option (List ℕ)) (skip left number items : ℕ)
+      → (t : Takes rules view says scripts Z H text count taken start now engine one two held source skip left number items) → given (lines_of t.rest) left number ≡ record { events = []; bad = None }
+      → (r : Runs rules view says Z (H ++ t.runs.entries) (scripts.closing ∷ []) now new after_it two three)
       → RunsGiven rules view says Z H all (given (lines_of text) count 2).bad start new after_it one three (Ok (items + 1))
-  ends_text now new engine after_it one two three held next source later skip left number items t gives none r idle =
-      let is = close_is now engine one two held next source later skip left number items t gives none in
+  ends_text now new engine after_it one two three held source skip left number items t ended r =
+      let is = close_is now engine one two held source skip left number items t ended in
       let whole = runs_compose rules view says Z H t.so_far (scripts.closing ∷ []) start now new engine after_it one two three t.runs r in record {
-        answers = sym t.bad ∙ ap (λ (g : Given). g.bad) (given_end t.rest gives.rest gives.line left number gives.lines gives.has none);
+        answers = sym t.bad ∙ ap (λ (g : Given). g.bad) ended;
         number = omega (arith, t.counted, length-append t.so_far (scripts.closing ∷ []), ap length is);
         moments = moments_of rules view says Z H (t.so_far ++ scripts.closing ∷ []) [] all start new after_it one three whole (append-nil (t.so_far ++ scripts.closing ∷ []) ∙ is);
         runs = λ _. same_items (t.so_far ++ scripts.closing ∷ []) new after_it one three whole is;
-        idle = idle;
         full = λ err. absurd (cc err);
       }
 
   -- the closing item is not taken, or not settled
-  pub close_fails : (now new : BoardView) (engine after_it : Engine M I) (one two three : Option (List ℕ)) (held next : List ℕ) (source later : Option (List ℕ)) (skip left number items : ℕ) (stop : Stop)
-      → (t : Takes rules view says scripts Z H text count taken start now engine one two held source skip left number items) → GivesForm t.rest next later (Some End) → left ≡ 0 → IsStepStop stop
+  pub close_fails : (now new : BoardView) (engine after_it : Engine M I) (one two three : Option (List ℕ)) (held : List ℕ) (source : Option (List ℕ)) (skip left number items : ℕ) (stop : Stop)
+      → (t : Takes rules view says scripts Z H text count taken start now engine one two held source skip left number items) → given (lines_of t.rest) left number ≡ record { events = []; bad = None } → IsStepStop stop
       → LeavesOnly now new (LeavesPrefix rules Z (H ++ t.runs.entries) now.sent (scripts.closing ∷ []))
       → (stop ≡ Full → StopsFull rules view says Z (H ++ t.runs.entries) (scripts.closing ∷ []) now new after_it two three)
       → RunsGiven rules view says Z H all (given (lines_of text) count 2).bad start new after_it one three (Err stop)
-  close_fails now new engine after_it one two three held next source later skip left number items stop t gives none step m full =
-      let is = close_is now engine one two held next source later skip left number items t gives none in
+  close_fails now new engine after_it one two three held source skip left number items stop t ended step m full =
+      let is = close_is now engine one two held source skip left number items t ended in
       fault_text new after_it one three stop (step_fault stop step)
       (moments_after rules view says Z H t.so_far (scripts.closing ∷ []) [] all start now new engine one two t.runs m is)
       (λ e. full_behind rules view says Z H t.so_far (scripts.closing ∷ []) [] all start now new engine after_it one two three t.runs (full e) is)

@@ -1,6 +1,6 @@
 -- From the opening and the calls after it to the whole run.
 use Rattle.std.proofs.Common.{◌≡◌, ◌⊎◌, inl, inr, ⊎_elim, ℕ, ◌+◌, ◌≤◌, List, [], ◌∷◌, ◌++◌, length, map, Option, Some, None, IsTrue, refl, sym, ◌∙◌, ap, subst, arith, append_assoc, Result, Ok, Err, OnOk, IfOk}
-use Rattle.std.specs.Prelude.{IsErrOf}
+use Rattle.std.specs.Prelude.{IsErrOf, IsSome}
 use Rattle.std.proofs.lemmas.List.{append-nil, append_cancel_left}
 use Rattle.board_core.specs.declared.step.Told.{Told}
 use Rattle.board_core.specs.Board.{Only, SyncsThen, BoardView, CrashState, LeftNow, IsSound, LeavesOnly, SyncsFirst, NeverSynced, steps_of, tolds_of}
@@ -9,9 +9,9 @@ use Rattle.pef_engine.specs.declared.entry.Entry.{Entry}
 use Rattle.pef_engine.specs.declared.entry.Entry.TheVariants.{Item, Outcome}
 use Rattle.pef_engine.specs.declared.engine.Engine.{Engine}
 use Rattle.pef_engine.specs.Rules.{Rules, LawfulFrom, Lawful, Stands}
-use Rattle.pef_engine.specs.MachineView.{MachineView}
+use Rattle.pef_engine.specs.MachineView.{MachineView, Agrees}
 use Rattle.pef_engine.specs.CrashFree.{crash_free_run, LeavesPrefix, entry_items, entry_tolds, IsPrefixOf}
-use Rattle.pef_engine.specs.Engine.{AfterOpen}
+use Rattle.pef_engine.specs.Engine.{Holds}
 use Rattle.pef_engine.proofs.Compose.{run_goes_on, run_more}
 use Rattle.pef_engine.proofs.Prefixes.{run_item, run_outcome}
 use Rattle.pef_engine.proofs.Stored.{images_stand}
@@ -22,7 +22,8 @@ use Rattle.script_run.specs.declared.stop.Stop.TheVariants.{Unformatted, Line, U
 use Rattle.pef_engine.specs.Scripts.{ScriptRules}
 use Rattle.script_run.specs.Items.{IsOther, items_of_text}
 use Rattle.script_run.specs.Report.{report_from}
-use Rattle.script_run.specs.Run.{Runs, StopsFull, ComesNext, RunsGiven, Answers}
+use Rattle.script_run.specs.Room.{HadRoom}
+use Rattle.script_run.specs.Run.{Runs, StopsFull, ComesNext, RunsGiven, IsTaken, Answers}
 use Rattle.script_run.specs.Top.{RunKeeps, RunTakes, ReturnLeft, IsFullAt}
 use Rattle.script_run.specs.Playing.{IsReported, AnswersOther, Plays, Performs, IsOpeningStop, AnswersNone}
 use Rattle.script_run.proofs.RunLemmas.{more_items}
@@ -63,7 +64,7 @@ module _ {I M : Type 0} (rules : Rules I) (view : M → MachineView I) (says : L
     where
       moments_then : SyncsThen old new (LeavesPrefix rules Z H old.sent items)
       moments_then = syncs_then old mid new (LeavesPrefix rules Z H old.sent []) (LeavesPrefix rules Z H mid.sent items) (LeavesPrefix rules Z H old.sent items) first later
-        (λ left p. more_items rules view says Z H old [] items left p) (λ left q. same_start items old mid left sent q)
+          (λ left p. more_items rules view says Z H old [] items left p) (λ left q. same_start items old mid left sent q)
 
   -- the run without a crash of one that took all items and left nothing pending is its entries
   pub run_is : (items : List I) (K : List (Entry I)) → LawfulFrom rules Z H K → entry_items K ≡ items → crash_free_run rules Z H items (entry_tolds K) ≡ K
@@ -82,14 +83,14 @@ module _ {I M : Type 0} (rules : Rules I) (view : M → MachineView I) (says : L
     where
       along : NeverSynced old new ⊎ SyncsThen old new (LeavesPrefix rules Z H old.sent items)
       along = ⊎_elim inl
-        (λ s. inr (record {
-          synced = s.synced;
-          after_start = s.after_start;
-          by_now = s.by_now;
-          until = λ c since. ⊎_elim inl (λ later. inr (more_items rules view says Z H old [] items c (s.since c later))) (s.until c since);
-          since = λ c since. more_items rules view says Z H old [] items c (s.since c since);
-        }))
-        moments
+          (λ s. inr (record {
+            synced = s.synced;
+            after_start = s.after_start;
+            by_now = s.by_now;
+            until = λ c since. ⊎_elim inl (λ later. inr (more_items rules view says Z H old [] items c (s.since c later))) (s.until c since);
+            since = λ c since. more_items rules view says Z H old [] items c (s.since c since);
+          }))
+          moments
 
   -- all items were taken, and reported
   pub run_takes : (items : List I) (old mid new : BoardView) (engine : Engine M I) (before after : Option (List ℕ)) → mid.sent ≡ old.sent → (r : Runs rules view says Z H items mid new engine before after) → RunTakes rules says Z H items old new before after []
@@ -98,6 +99,9 @@ module _ {I M : Type 0} (rules : Rules I) (view : M → MachineView I) (says : L
         tolds = entry_tolds r.entries;
         told = r.told ∙ ap (λ s. tolds_of s ++ entry_tolds r.entries) sent;
         taken = ap entry_items is ∙ r.taken;
+        stored = ap entry_tolds is;
+        lawful = subst (LawfulFrom rules Z H) (sym is) r.lawful;
+        room = subst (HadRoom rules Z H) (sym is) r.room;
         lasting = λ c now. subst (λ K. Stands rules Z (H ++ K) c) (sym is) (images_stand _ _ _ new engine.journal r.holds.stored c now);
         written = λ text is_before. r.written text is_before ∙ ap (λ K. Some (text ++ K)) (ap (report_from says Z H) (sym is) ∙ sym (append-nil (report_from says Z H (crash_free_run rules Z H items (entry_tolds r.entries)))));
       }
@@ -139,105 +143,108 @@ module _ {I M : Type 0} (rules : Rules I) (view : M → MachineView I) (says : L
   performs_not new before (Unfinished id count) keeps opening formatted over = absurd opening
   performs_not new before Input keeps opening formatted over = absurd opening
   performs_not new before Output keeps opening formatted over = absurd opening
-  performs_not new before Disk keeps opening formatted over = record { keeps = keeps; takes = λ r. absurd r; idle = tt; number = tt; answers = λ not. tt; refuses = λ o. tt; other = λ id count e. absurd (cc e); full = λ e. absurd (cc e) }
-  performs_not new before Memory keeps opening formatted over = record { keeps = keeps; takes = λ r. absurd r; idle = tt; number = tt; answers = λ not. tt; refuses = λ o. tt; other = λ id count e. absurd (cc e); full = λ e. absurd (cc e) }
-  performs_not new before Full keeps opening formatted over = record { keeps = keeps; takes = λ r. absurd r; idle = tt; number = tt; answers = λ not. tt; refuses = λ o. tt; other = λ id count e. absurd (cc e); full = λ e. inr (over refl) }
+  performs_not new before Disk keeps opening formatted over = record { keeps = keeps; takes = λ r. absurd r; idle = λ said taken. absurd taken; number = tt; answers = λ not. tt; refuses = λ o. tt; other = λ id count e. absurd (cc e); full = λ e. absurd (cc e) }
+  performs_not new before Memory keeps opening formatted over = record { keeps = keeps; takes = λ r. absurd r; idle = λ said taken. absurd taken; number = tt; answers = λ not. tt; refuses = λ o. tt; other = λ id count e. absurd (cc e); full = λ e. absurd (cc e) }
+  performs_not new before Full keeps opening formatted over = record { keeps = keeps; takes = λ r. absurd r; idle = λ said taken. absurd taken; number = tt; answers = λ not. tt; refuses = λ o. tt; other = λ id count e. absurd (cc e); full = λ e. inr (over refl) }
 
   -- the file is opened, and the script is run
-  module _ (mid new : BoardView) (engine : Engine M I) (before after : Option (List ℕ)) (stands : Stands rules Z H old.octets) (first : SyncsFirst old mid (LeavesPrefix rules Z H old.sent [])) (sent : mid.sent ≡ old.sent) (sound : IsSound new) (tells : IsTrue new.tells) where
-    pub performs : (result : Result ℕ Stop) → Plays rules view says scripts Z H text mid new engine before after result → Performs rules view says scripts Z H text old new before after result
-    performs (Ok n) plays =
+  module _ (mid new : BoardView) (engine : Engine M I) (before after : Option (List ℕ)) (agrees : Agrees rules (view engine.machine)) (stands : Stands rules Z H old.octets) (first : SyncsFirst old mid (LeavesPrefix rules Z H old.sent [])) (sent : mid.sent ≡ old.sent) (sound : IsSound new) (tells : IsTrue new.tells) where
+    idle_now : (due : (view engine.machine).due ≡ None) (G : List (Entry I)) → Holds rules view Z G new engine → rules.pending Z G ≡ None
+    idle_now due G holds = sym (agrees.due Z G holds.lawful holds.shows) ∙ due
+
+    pub performs : (result : Result ℕ Stop) → (IsSome (said_of text) → IsTaken result → (view engine.machine).due ≡ None) → Plays rules view says scripts Z H text mid new engine before after result → Performs rules view says scripts Z H text old new before after result
+    performs (Ok n) idle plays =
         let not : IsOther (scripts.script_of H) (said_of text) → ⊥ = λ o. (plays.refuses o).0 in
         let q = plays.runs not in
         let r = q.runs tt in record {
           keeps = run_keeps rules view says Z H (items_of_text scripts text H) old mid new stands first sent plays.moments sound tells;
           takes = λ t. run_takes rules view says Z H (items_of_text scripts text H) old mid new engine before after sent r;
-          idle = run_idle rules view says Z H (items_of_text scripts text H) old mid new engine before after sent r (q.idle (H ++ r.entries) r.holds);
+          idle = λ said taken. run_idle rules view says Z H (items_of_text scripts text H) old mid new engine before after sent r (idle_now (idle said taken) (H ++ r.entries) r.holds);
           number = q.number;
           answers = λ not. (plays.runs not).answers;
           refuses = λ o. (plays.refuses o).0;
           other = λ id count e. absurd (cc e);
           full = λ e. absurd (cc e);
         }
-    performs (Err (Line number)) plays =
+    performs (Err (Line number)) idle plays =
         let not : IsOther (scripts.script_of H) (said_of text) → ⊥ = λ o. (plays.refuses o).0 in
         let r = (plays.runs not).runs tt in record {
           keeps = run_keeps rules view says Z H (items_of_text scripts text H) old mid new stands first sent plays.moments sound tells;
           takes = λ t. run_takes rules view says Z H (items_of_text scripts text H) old mid new engine before after sent r;
-          idle = tt;
+          idle = λ said taken. run_idle rules view says Z H (items_of_text scripts text H) old mid new engine before after sent r (idle_now (idle said taken) (H ++ r.entries) r.holds);
           number = tt;
           answers = λ not. (plays.runs not).answers;
           refuses = λ o. (plays.refuses o).0;
           other = λ id count e. absurd (cc e);
           full = λ e. absurd (cc e);
         }
-    performs (Err (Unfinished id count)) plays =
+    performs (Err (Unfinished id count)) idle plays =
         let o = plays.other id count refl in
         let none : [] ≡ items_of_text scripts text H = sym (none_of_other scripts (scripts.script_of H) (said_of text) o) in
         let r = subst (λ i. Runs rules view says Z H i mid new engine before after) none (plays.refuses o).1 in record {
           keeps = run_keeps rules view says Z H (items_of_text scripts text H) old mid new stands first sent plays.moments sound tells;
           takes = λ t. run_takes rules view says Z H (items_of_text scripts text H) old mid new engine before after sent r;
-          idle = tt;
+          idle = λ said taken. absurd taken;
           number = tt;
           answers = λ not. (plays.runs not).answers;
           refuses = λ o. (plays.refuses o).0;
           other = λ i c e. o;
           full = λ e. absurd (cc e);
         }
-    performs (Err Unformatted) plays = record {
+    performs (Err Unformatted) idle plays = record {
       keeps = run_keeps rules view says Z H (items_of_text scripts text H) old mid new stands first sent plays.moments sound tells;
       takes = λ t. absurd t;
-      idle = tt;
+      idle = λ said taken. absurd taken;
       number = tt;
       answers = λ not. (plays.runs not).answers;
       refuses = λ o. (plays.refuses o).0;
       other = λ id count e. absurd (cc e);
       full = λ e. absurd (cc e);
     }
-    performs (Err Input) plays = record {
+    performs (Err Input) idle plays = record {
       keeps = run_keeps rules view says Z H (items_of_text scripts text H) old mid new stands first sent plays.moments sound tells;
       takes = λ t. absurd t;
-      idle = tt;
+      idle = λ said taken. absurd taken;
       number = tt;
       answers = λ not. (plays.runs not).answers;
       refuses = λ o. (plays.refuses o).0;
       other = λ id count e. absurd (cc e);
       full = λ e. absurd (cc e);
     }
-    performs (Err Disk) plays = record {
+    performs (Err Disk) idle plays = record {
       keeps = run_keeps rules view says Z H (items_of_text scripts text H) old mid new stands first sent plays.moments sound tells;
       takes = λ t. absurd t;
-      idle = tt;
+      idle = λ said taken. absurd taken;
       number = tt;
       answers = λ not. (plays.runs not).answers;
       refuses = λ o. (plays.refuses o).0;
       other = λ id count e. absurd (cc e);
       full = λ e. absurd (cc e);
     }
-    performs (Err Output) plays = record {
+    performs (Err Output) idle plays = record {
       keeps = run_keeps rules view says Z H (items_of_text scripts text H) old mid new stands first sent plays.moments sound tells;
       takes = λ t. absurd t;
-      idle = tt;
+      idle = λ said taken. absurd taken;
       number = tt;
       answers = λ not. (plays.runs not).answers;
       refuses = λ o. (plays.refuses o).0;
       other = λ id count e. absurd (cc e);
       full = λ e. absurd (cc e);
     }
-    performs (Err Memory) plays = record {
+    performs (Err Memory) idle plays = record {
       keeps = run_keeps rules view says Z H (items_of_text scripts text H) old mid new stands first sent plays.moments sound tells;
       takes = λ t. absurd t;
-      idle = tt;
+      idle = λ said taken. absurd taken;
       number = tt;
       answers = λ not. (plays.runs not).answers;
       refuses = λ o. (plays.refuses o).0;
       other = λ id count e. absurd (cc e);
       full = λ e. absurd (cc e);
     }
-    performs (Err Full) plays = record {
+    performs (Err Full) idle plays = record {
       keeps = run_keeps rules view says Z H (items_of_text scripts text H) old mid new stands first sent plays.moments sound tells;
       takes = λ t. absurd t;
-      idle = tt;
+      idle = λ said taken. absurd taken;
       number = tt;
       answers = λ not. (plays.runs not).answers;
       refuses = λ o. (plays.refuses o).0;

@@ -2,6 +2,7 @@ pub mod Items
 pub mod Report
 pub mod Room
 pub mod Status
+pub mod Taking
 pub mod Run
 pub mod Course
 pub mod Playing

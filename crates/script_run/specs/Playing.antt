@@ -1,5 +1,5 @@
 -- What is done with a whole text.
-use Rattle.std.specs.Prelude.{◌≡◌, ◌⊎◌, ⊤, ℕ, List, [], ◌++◌, length, Option, None, IfSome, Result, Ok, Err, IsErrOf, IfOk, OnOk}
+use Rattle.std.specs.Prelude.{◌≡◌, ◌⊎◌, ⊤, ℕ, List, [], ◌++◌, length, Option, None, IsSome, IfSome, Result, Ok, Err, IsErrOf, IfOk}
 use Rattle.board_core.specs.declared.step.Told.{Told}
 use Rattle.board_core.specs.Board.{BoardView, LeavesOnly, tolds_of}
 use Rattle.pef_engine.specs.declared.entry.Entry.{Entry}
@@ -15,7 +15,7 @@ use Rattle.pef_engine.specs.Scripts.{ScriptRules}
 use Rattle.script_run.specs.Items.{IsOther, items_of_text}
 use Rattle.script_run.specs.Report.{says}
 use Rattle.script_run.specs.Top.{RunKeeps, RunTakes, IsFullAt}
-use Rattle.script_run.specs.Run.{Runs, Answers, RunsGiven}
+use Rattle.script_run.specs.Run.{Runs, IsTaken, Answers, RunsGiven}
 
 -- what it may answer where another script is unfinished: it names that one, unless something failed before
 abbrev pub AnswersOther : {A : Type 0} → Option Script → Result A Stop → Type 0
@@ -65,7 +65,7 @@ AnswersNone (Err Memory) = ⊤
 pub record Performs {I M : Type 0} (rules : Rules I) (view : M → MachineView I) (says : List ℕ → List (Entry I) → Entry I → List ℕ) (scripts : ScriptRules I) (Z : List ℕ) (H : List (Entry I)) (text : List ℕ) (old new : BoardView) (before after : Option (List ℕ)) (result : Result ℕ Stop) : Type 0 where
   pub keeps : RunKeeps rules Z H (items_of_text scripts text H) old new
   pub takes : IsReported result → RunTakes rules says Z H (items_of_text scripts text H) old new before after []
-  pub idle : OnOk result ((tolds : List Told) → tolds_of new.sent ≡ tolds_of old.sent ++ tolds → rules.pending Z (H ++ crash_free_run rules Z H (items_of_text scripts text H) tolds) ≡ None)
+  pub idle : IsSome (said_of text) → IsTaken result → (tolds : List Told) → tolds_of new.sent ≡ tolds_of old.sent ++ tolds → rules.pending Z (H ++ crash_free_run rules Z H (items_of_text scripts text H) tolds) ≡ None
   pub number : IfOk result (λ n. n ≡ length (items_of_text scripts text H))
   pub answers : (IsOther (scripts.script_of H) (said_of text) → ⊥) → Answers (bad_line (said_of text)) result
   pub refuses : IsOther (scripts.script_of H) (said_of text) → AnswersOther (scripts.script_of H) result

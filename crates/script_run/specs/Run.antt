@@ -17,11 +17,11 @@ use Rattle.script_run.specs.Items.{rest_of}
 use Rattle.script_run.specs.Report.{report_from}
 use Rattle.pef_engine.specs.declared.entry.Entry.TheVariants.{Item, Outcome}
 use Rattle.pef_engine.specs.Engine.{Holds}
-use Rattle.script_run.specs.Room.{IsTooMuch}
+use Rattle.script_run.specs.Room.{HadRoom, IsTooMuch}
 
 -- Since start these items were taken and settled behind H, in the entries K: the steps issued are those prescribed, the sink took
 -- the report of K where it tells what was written, and a crash on the way leaves a prefix of the run without a crash.
-pub record Runs {I M : Type 0} (rules : Rules I) (view : M → MachineView I) (line : List ℕ → List (Entry I) → Entry I → List ℕ) (Z : List ℕ) (H : List (Entry I)) (items : List I) (start now : BoardView) (engine : Engine M I) (before after : Option (List ℕ)) : Type 0 where
+pub record Runs {I M : Type 0} (rules : Rules I) (view : M → MachineView I) (says : List ℕ → List (Entry I) → Entry I → List ℕ) (Z : List ℕ) (H : List (Entry I)) (items : List I) (start now : BoardView) (engine : Engine M I) (before after : Option (List ℕ)) : Type 0 where
   pub entries : List (Entry I)
   pub lawful : LawfulFrom rules Z H entries
   pub taken : entry_items entries ≡ items
@@ -31,7 +31,8 @@ pub record Runs {I M : Type 0} (rules : Rules I) (view : M → MachineView I) (l
   pub told : tolds_of now.sent ≡ tolds_of start.sent ++ entry_tolds entries
   pub prescribes : prescribed rules Z (H ++ entries) ≡ prescribed rules Z H ++ steps
   pub moments : LeavesOnly start now (LeavesPrefix rules Z H start.sent items)
-  pub written : (old : List ℕ) → before ≡ Some old → after ≡ Some (old ++ report_from line Z H entries)
+  pub room : HadRoom rules Z H entries
+  pub written : (old : List ℕ) → before ≡ Some old → after ≡ Some (old ++ report_from says Z H entries)
 
 -- the machine shows a lawful history in which these items came behind H
 pub record Moved {I : Type 0} (rules : Rules I) (new : MachineView I) (Z : List ℕ) (H : List (Entry I)) (items : List I) : Type 0 where
@@ -50,11 +51,11 @@ ComesNext rules Z H items (Outcome told) = (step : Step) × (rules.pending Z H �
 ComesNext {I} rules Z H items (Item item) = (rules.pending Z H ≡ None) × (rest : List I) × (items ≡ item ∷ rest)
 
 -- some of these items were taken, and the next entry has no room
-pub record StopsFull {I M : Type 0} (rules : Rules I) (view : M → MachineView I) (line : List ℕ → List (Entry I) → Entry I → List ℕ) (Z : List ℕ) (H : List (Entry I)) (items : List I) (start now : BoardView) (engine : Engine M I) (before after : Option (List ℕ)) : Type 0 where
+pub record StopsFull {I M : Type 0} (rules : Rules I) (view : M → MachineView I) (says : List ℕ → List (Entry I) → Entry I → List ℕ) (Z : List ℕ) (H : List (Entry I)) (items : List I) (start now : BoardView) (engine : Engine M I) (before after : Option (List ℕ)) : Type 0 where
   pub so_far : List I
   pub more : List I
   pub split : so_far ++ more ≡ items
-  pub runs : Runs rules view line Z H so_far start now engine before after
+  pub runs : Runs rules view says Z H so_far start now engine before after
   pub next : Entry I
   pub comes : ComesNext rules Z (H ++ runs.entries) more next
   pub too_much : IsTooMuch rules view Z (H ++ runs.entries) next
@@ -78,10 +79,6 @@ pub record IsReadyFor {I : Type 0} (rules : Rules I) (scripts : ScriptRules I) (
   pub shows : view.shows settings history
   pub idle : view.due ≡ None
   pub awaits : Awaits (scripts.script_of history) count taken
-
--- nothing is pending in the history that the engine holds
-abbrev pub IsIdle : {I M : Type 0} → Rules I → (M → MachineView I) → List ℕ → BoardView → Engine M I → Type 0
-IsIdle {I} rules view Z now engine = (G : List (Entry I)) → Holds rules view Z G now engine → rules.pending Z G ≡ None
 
 -- it ended, or stopped at a bad line
 abbrev pub IsTaken : {A : Type 0} → Result A Stop → Type 0
@@ -107,21 +104,20 @@ Answers bad (Err Output) = ⊤
 Answers bad (Err Full) = ⊤
 Answers bad (Err Memory) = ⊤
 
--- A text that gives these items and has this first bad line was run: at Ok all of them are in the history, and said, and nothing is
--- pending; at a bad line all of them too; where there was no room, those up to the next entry; and a crash leaves a prefix of the run
+-- A text that gives these items and has this first bad line was run: at Ok all of them are in the history, and said; at a bad line
+-- all of them too; where there was no room, those up to the next entry; and a crash leaves a prefix of the run
 -- without a crash.
-pub record RunsGiven {I M : Type 0} (rules : Rules I) (view : M → MachineView I) (line : List ℕ → List (Entry I) → Entry I → List ℕ) (Z : List ℕ) (H : List (Entry I)) (items : List I) (bad : Option ℕ) (start now : BoardView) (engine : Engine M I) (before after : Option (List ℕ)) (result : Result ℕ Stop) : Type 0 where
+pub record RunsGiven {I M : Type 0} (rules : Rules I) (view : M → MachineView I) (says : List ℕ → List (Entry I) → Entry I → List ℕ) (Z : List ℕ) (H : List (Entry I)) (items : List I) (bad : Option ℕ) (start now : BoardView) (engine : Engine M I) (before after : Option (List ℕ)) (result : Result ℕ Stop) : Type 0 where
   pub answers : Answers bad result
   pub number : IfOk result (λ n. n ≡ length items)
   pub moments : LeavesOnly start now (LeavesPrefix rules Z H start.sent items)
-  pub runs : IsTaken result → Runs rules view line Z H items start now engine before after
-  pub idle : OnOk result (IsIdle rules view Z now engine)
-  pub full : IsErrOf result Full → StopsFull rules view line Z H items start now engine before after
+  pub runs : IsTaken result → Runs rules view says Z H items start now engine before after
+  pub full : IsErrOf result Full → StopsFull rules view says Z H items start now engine before after
 
 -- So far these items of a text were taken; the rest of its lines give the others.
-pub record Takes {I M : Type 0} (rules : Rules I) (view : M → MachineView I) (line : List ℕ → List (Entry I) → Entry I → List ℕ) (scripts : ScriptRules I) (Z : List ℕ) (H : List (Entry I)) (text : List ℕ) (count taken : ℕ) (start now : BoardView) (engine : Engine M I) (before after : Option (List ℕ)) (held : List ℕ) (source : Option (List ℕ)) (skip left number items : ℕ) : Type 0 where
+pub record Takes {I M : Type 0} (rules : Rules I) (view : M → MachineView I) (says : List ℕ → List (Entry I) → Entry I → List ℕ) (scripts : ScriptRules I) (Z : List ℕ) (H : List (Entry I)) (text : List ℕ) (count taken : ℕ) (start now : BoardView) (engine : Engine M I) (before after : Option (List ℕ)) (held : List ℕ) (source : Option (List ℕ)) (skip left number items : ℕ) : Type 0 where
   pub so_far : List I
-  pub runs : Runs rules view line Z H so_far start now engine before after
+  pub runs : Runs rules view says Z H so_far start now engine before after
   pub rest : List ℕ
   pub unread : HasLeft held source rest
   pub split : so_far ++ rest_of scripts skip (given (lines_of rest) left number) ≡ rest_of scripts taken (given (lines_of text) count 2)

@@ -4,14 +4,14 @@ use Rattle.board_core.specs.declared.step.Told.{Told}
 use Rattle.board_core.specs.Causes.{Rose}
 use Rattle.board_core.specs.Board.{Only, SyncsThen, BoardView, CrashState, NeverSynced, steps_of, tolds_of}
 use Rattle.pef_engine.specs.declared.entry.Entry.{Entry}
-use Rattle.pef_engine.specs.Rules.{Rules, Lawful, Stands, StandsForNone}
+use Rattle.pef_engine.specs.Rules.{Rules, LawfulFrom, Lawful, Stands, StandsForNone}
 use Rattle.pef_engine.specs.MachineView.{MachineView}
-use Rattle.pef_engine.specs.CrashFree.{crash_free_run, LeavesPrefix, entry_items, IsPrefixOf}
+use Rattle.pef_engine.specs.CrashFree.{crash_free_run, LeavesPrefix, entry_items, entry_tolds, IsPrefixOf}
 use Rattle.script_text.specs.Script.{said_of, bad_line}
 use Rattle.pef_engine.specs.Scripts.{ScriptRules}
 use Rattle.script_run.specs.Items.{IsOther, items_of_text}
 use Rattle.script_run.specs.Report.{report_from, says, ok_line, bad_line_line, unfinished_line}
-use Rattle.script_run.specs.Room.{IsTooMuch}
+use Rattle.script_run.specs.Room.{HadRoom, LacksRoom, IsTooMuch, HasNoLimit}
 use Rattle.script_run.specs.Status.{IsOneOf, IsPartOf}
 
 -- what the file stands for at the return, as a read gives it
@@ -26,12 +26,15 @@ pub record RunKeeps {I : Type 0} (rules : Rules I) (Z : List ℕ) (H : List (Ent
   pub returned : LeavesPrefix rules Z H old.sent items (ReturnLeft new)
   pub whole_call : Only old.octets old.images → (c : CrashState) → new.left_since old.moment c → LeavesPrefix rules Z H old.sent items c
 
--- All items are in the history, which is the run without a crash with what was told; every crash leaves it; and the report of it
--- was written, with part of a last line.
+-- All items are in the history, which is the run without a crash with what was told, all of it; every entry had room; every crash
+-- leaves it; and the report of it was written, with part of a last line.
 pub record RunTakes {I : Type 0} (rules : Rules I) (says : List ℕ → List (Entry I) → Entry I → List ℕ) (Z : List ℕ) (H : List (Entry I)) (items : List I) (old new : BoardView) (before after : Option (List ℕ)) (part : List ℕ) : Type 0 where
   pub tolds : List Told
   pub told : tolds_of new.sent ≡ tolds_of old.sent ++ tolds
   pub taken : entry_items (crash_free_run rules Z H items tolds) ≡ items
+  pub stored : entry_tolds (crash_free_run rules Z H items tolds) ≡ tolds
+  pub lawful : LawfulFrom rules Z H (crash_free_run rules Z H items tolds)
+  pub room : HadRoom rules Z H (crash_free_run rules Z H items tolds)
   pub lasting : (c : List ℕ) → new.images c → Stands rules Z (H ++ crash_free_run rules Z H items tolds) c
   pub written : (text : List ℕ) → before ≡ Some text → after ≡ Some (text ++ (report_from says Z H (crash_free_run rules Z H items tolds) ++ part))
 
@@ -65,13 +68,24 @@ pub record RunAnswers {I M : Type 0} (rules : Rules I) (view : M → MachineView
   pub whole : status ≡ 0 → RunIsWhole rules (says rules scripts) Z H (items_of_text scripts text H) old new before after
   -- 4 exactly where a line is bad, and 5 exactly where another script is unfinished, unless something failed before
   pub bad : status ≡ 4 → (number : ℕ) × (bad_line (said_of text) ≡ Some number) × RunStops rules (says rules scripts) Z H (items_of_text scripts text H) old new before after writes_before writes_after (bad_line_line number)
+  -- where line 1 is good, nothing is pending then
+  pub settled : status ≡ 4 → IsSome (said_of text) → (tolds : List Told) → tolds_of new.sent ≡ tolds_of old.sent ++ tolds → rules.pending Z (H ++ crash_free_run rules Z H (items_of_text scripts text H) tolds) ≡ None
   pub is_bad : (IsOther (scripts.script_of H) (said_of text) → ⊥) → IsSome (bad_line (said_of text)) → IsOneOf status (4 ∷ 6 ∷ 7 ∷ 8 ∷ 9 ∷ 10 ∷ [])
   pub other : status ≡ 5 → IsOther (scripts.script_of H) (said_of text) × ((id : ℕ) × (count : ℕ) × IfSome (scripts.script_of H) (λ s. (s.id ≡ id) × (s.count ≡ count))
       × RunStops rules (says rules scripts) Z H (items_of_text scripts text H) old new before after writes_before writes_after (unfinished_line id count))
   pub is_other : IsOther (scripts.script_of H) (said_of text) → IsOneOf status (5 ∷ 6 ∷ 7 ∷ 9 ∷ 10 ∷ [])
   pub formatted : status ≢ 3
-  -- 9 where the next entry of the run without a crash has no room
+  -- 9 exactly where the next entry of the run without a crash has no room, unless something failed before
   pub full : status ≡ 9 → IsFullAt rules view Z H (items_of_text scripts text H) old new ⊎ ((machine : M) × (item : I) × (view machine).over item)
+  pub is_full : IsSome (said_of text) → (IsOther (scripts.script_of H) (said_of text) → ⊥) → (tolds more : List Told) → tolds_of new.sent ≡ tolds_of old.sent ++ tolds
+      → LacksRoom rules Z H (items_of_text scripts text H) (tolds ++ more) → IsOneOf status (6 ∷ 7 ∷ 8 ∷ 9 ∷ 10 ∷ [])
+
+-- The text is good, no other script is unfinished, and there is room for each entry, whatever the steps are told.
+pub record MayEnd {I M : Type 0} (rules : Rules I) (view : M → MachineView I) (scripts : ScriptRules I) (Z : List ℕ) (H : List (Entry I)) (text : List ℕ) : Type 0 where
+  pub good : bad_line (said_of text) ≡ None
+  pub no_other : IsOther (scripts.script_of H) (said_of text) → ⊥
+  pub room : (tolds : List Told) → LacksRoom rules Z H (items_of_text scripts text H) tolds → ⊥
+  pub no_limit : HasNoLimit view
 
 -- A call of `run` on a board, a source with so many faults, and a sink, and its status.
 pub record RunCall {I M : Type 0} (rules : Rules I) (view : M → MachineView I) (scripts : ScriptRules I) (old new : BoardView) (source : Option (List ℕ)) (reads_before reads_after : ℕ) (before after : Option (List ℕ)) (writes_before writes_after status : ℕ) : Type 0 where
@@ -86,3 +100,6 @@ pub record RunCall {I M : Type 0} (rules : Rules I) (view : M → MachineView I)
   pub output : status ≡ 8 → Rose writes_before writes_after
   -- 10 only before the first item, but for a machine that takes memory for its items
   pub memory : status ≡ 10 → IsTrue rules.takes_memory ⊎ (IsTrue new.tells → (new.octets ≡ old.octets) × (new.sent ≡ old.sent))
+  -- where the file stands for a lawful history, all is right with the text and nothing fails, it ends with 0 or for want of memory
+  pub complete : IsTrue new.tells → (Z : List ℕ) (H : List (Entry I)) (text : List ℕ) → Lawful rules Z H → Stands rules Z H old.octets → source ≡ Some text → MayEnd rules view scripts Z H text
+      → IsOneOf status (0 ∷ 10 ∷ []) ⊎ (Rose reads_before reads_after ⊎ (Rose old.disk_faults new.disk_faults ⊎ Rose writes_before writes_after))

@@ -1,13 +1,13 @@
 //! Running a whole script on an engine that is open.
-ghost use Rattle.std.specs.Prelude.{◌≡◌, ◌⊎◌, ◌≤◌, ℕ, List, [], ◌∷◌, Option, Some, None, IsTrue, OnOk, IfOk, IsErr, IsErrOf};
+ghost use Rattle.std.specs.Prelude.{◌≡◌, ◌⊎◌, ◌≤◌, ℕ, List, [], ◌∷◌, Option, Some, None, IsTrue, IsSome, OnOk, IfOk, IsErr, IsErrOf};
 ghost use Rattle.board_core.specs.Causes.{Rose};
 ghost use Rattle.pef_engine.specs.declared.entry.Entry.{Entry};
 ghost use Rattle.pef_engine.specs.Engine.{Holds, IsLive, HasPlace, ShowsSome};
 ghost use Rattle.script_text.specs.Lines.{lines_of};
 ghost use Rattle.script_text.specs.Reading.{HasLeft};
-ghost use Rattle.script_text.specs.Script.{given};
+ghost use Rattle.script_text.specs.Script.{given, said_of};
 ghost use Rattle.script_run.specs.Report.{says};
-ghost use Rattle.script_run.specs.Run.{RunsGiven, Answers};
+ghost use Rattle.script_run.specs.Run.{RunsGiven, IsTaken, Answers};
 ghost use Rattle.script_run.specs.Playing.{Plays};
 ghost use Rattle.script_run.specs.Course.{TakesCourse, items_on};
 
@@ -40,6 +40,8 @@ pub(crate) fn play<M: Scripted, B: Board, S: Source, K: Sink>(
     ensures input { IsErrOf result Stop.Input → Rose (S.faults source.old) (S.faults source.new) }
     ensures memory { IsErrOf result Stop.Memory → IsTrue M.rules.takes_memory }
     ensures formatted { IsErrOf result Stop.Unformatted → ⊥ }
+    // where line 1 is good, nothing is pending behind the items that were taken
+    ensures idle { (text : List ℕ) → S.left source.old ≡ Some text → IsSome (said_of text) → IsTaken result → (M.view engine.new.machine).due ≡ None }
 {
     let mut reader = Reader::new();
     let head = match read_head(&mut reader, source) {
@@ -79,6 +81,7 @@ fn follow<M: Scripted, B: Board, S: Source, K: Sink>(
     ensures input { IsErrOf result Stop.Input → Rose (S.faults source.old) (S.faults source.new) }
     ensures memory { IsErrOf result Stop.Memory → IsTrue M.rules.takes_memory }
     ensures other { ((id count : ℕ) → IsErrOf result (Stop.Unfinished id count) → ⊥) × (IsErrOf result Stop.Unformatted → ⊥) }
+    ensures idle { IsTaken result → (M.view engine.new.machine).due ≡ None }
 {
     match settle_and_say(engine, board, out) {
         Ok(()) => {}
@@ -118,6 +121,7 @@ fn begin<M: Scripted, B: Board, S: Source, K: Sink>(
     ensures input { IsErrOf result Stop.Input → Rose (S.faults source.old) (S.faults source.new) }
     ensures memory { IsErrOf result Stop.Memory → IsTrue M.rules.takes_memory }
     ensures other { ((id count : ℕ) → IsErrOf result (Stop.Unfinished id count) → ⊥) × (IsErrOf result Stop.Unformatted → ⊥) }
+    ensures idle { IsTaken result → (M.view engine.new.machine).due ≡ None }
 {
     match take_one(engine, board, out, M::opening(head.id, head.count)) {
         Ok(()) => {}

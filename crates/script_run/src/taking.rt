@@ -1,5 +1,5 @@
 //! Taking what the lines of a script give.
-ghost use Rattle.std.specs.Prelude.{◌≡◌, ◌⊎◌, ◌↔◌, ◌≤◌, ◌+◌, ℕ, List, [], ◌∷◌, Option, None, IsTrue, IfErr, OnOk, IfOk, IsErr, IsErrOf};
+ghost use Rattle.std.specs.Prelude.{◌≡◌, ◌⊎◌, ◌↔◌, ◌≤◌, ◌<◌, ◌+◌, ℕ, List, [], ◌∷◌, Option, None, IsTrue, IsSome, OnOk, OnErr, IfOk, IsErr, IsErrOf};
 ghost use Rattle.board_core.specs.Causes.{Rose};
 ghost use Rattle.pef_engine.specs.declared.entry.Entry.{Entry};
 ghost use Rattle.pef_engine.specs.Engine.{Holds, IsLive, HasPlace};
@@ -8,7 +8,8 @@ ghost use Rattle.script_text.specs.Reading.{HasLeft};
 ghost use Rattle.script_text.specs.Script.{given, GivesForm, HasCount};
 ghost use Rattle.script_run.specs.Items.{rest_of};
 ghost use Rattle.script_run.specs.Report.{says};
-ghost use Rattle.script_run.specs.Run.{RunsGiven, IsReadyFor, Answers};
+ghost use Rattle.script_run.specs.Taking.{GivesEvent};
+ghost use Rattle.script_run.specs.Run.{RunsGiven, IsReadyFor, IsTaken, Answers};
 
 use crate::settling::take_one;
 use crate::stop::Stop;
@@ -42,6 +43,7 @@ pub(crate) fn take_lines<M: Scripted, B: Board, S: Source, K: Sink>(
     ensures input { IsErrOf result Stop.Input → Rose (S.faults source.old) (S.faults source.new) }
     ensures memory { IsErrOf result Stop.Memory → IsTrue M.rules.takes_memory }
     ensures few { IfOk result (λ n. n ≤ count + 1) }
+    ensures idle { IsTaken result → (M.view engine.new.machine).due ≡ None }
     ensures other { ((id count : ℕ) → IsErrOf result (Stop.Unfinished id count) → ⊥) × (IsErrOf result Stop.Unformatted → ⊥) }
 {
     let mut skip = taken;
@@ -49,43 +51,28 @@ pub(crate) fn take_lines<M: Scripted, B: Board, S: Source, K: Sink>(
     let mut number = 2u32;
     let mut items = 0u32;
     'lines: loop {
-        let form = match next_form(reader, source) {
-            Ok(form) => form,
+        let event = match next_event(reader, source, left, number) {
+            Ok(event) => event,
             Err(stop) => return Err(stop),
         };
-        let Some(form) = form else {
-            return Err(Stop::Line(number));
+        let Some(octets) = event else {
+            match take_one(engine, board, out, M::closing()) {
+                Ok(()) => {}
+                Err(stop) => return Err(stop),
+            }
+            return Ok(items + 1);
         };
-        match form {
-            Form::Event { octets } => {
-                if left == 0 {
-                    return Err(Stop::Line(number));
-                }
-                left -= 1;
-                if skip > 0 {
-                    skip -= 1;
-                    number += 1;
-                    continue 'lines;
-                }
-                match take_one(engine, board, out, M::event(octets)) {
-                    Ok(()) => {}
-                    Err(stop) => return Err(stop),
-                }
-                number += 1;
-                items += 1;
-            }
-            Form::End => {
-                if left != 0 {
-                    return Err(Stop::Line(number));
-                }
-                match take_one(engine, board, out, M::closing()) {
-                    Ok(()) => {}
-                    Err(stop) => return Err(stop),
-                }
-                return Ok(items + 1);
-            }
-            Form::Head { .. } => return Err(Stop::Line(number)),
+        left -= 1;
+        number += 1;
+        if skip > 0 {
+            skip -= 1;
+            continue 'lines;
         }
+        match take_one(engine, board, out, M::event(octets)) {
+            Ok(()) => {}
+            Err(stop) => return Err(stop),
+        }
+        items += 1;
     }
 }
 
@@ -105,29 +92,53 @@ pub(crate) fn pass_over<S: Source>(
     let mut left = count;
     let mut number = 2u32;
     'lines: loop {
-        let form = match next_form(reader, source) {
-            Ok(form) => form,
+        let event = match next_event(reader, source, left, number) {
+            Ok(event) => event,
             Err(stop) => return Err(stop),
         };
-        let Some(form) = form else {
-            return Err(Stop::Line(number));
+        let Some(_) = event else {
+            return Ok(());
         };
-        match form {
-            Form::Event { .. } => {
-                if left == 0 {
-                    return Err(Stop::Line(number));
-                }
-                left -= 1;
-                number += 1;
+        left -= 1;
+        number += 1;
+    }
+}
+
+// The event of the next line, which has this number and behind whose head so many events are still to come; None where the line is
+// the end. Another line is bad, and so is an end too early or an event too many.
+fn next_event<S: Source>(
+    reader: &mut Reader,
+    source: &mut S,
+    left: u32,
+    number: u32,
+) -> Result<Option<[u8; 16]>, Stop>
+    ensures given { (text : List ℕ) → HasLeft reader.old (S.left source.old) text → GivesEvent text left number reader.new (S.left source.new) result }
+    ensures due { IfOk result (λ event. IsSome event ↔ (0 < left)) }
+    ensures line { OnErr result (IsErrOf result (Stop.Line number) ⊎ IsErrOf result Stop.Input) }
+    ensures input { IsErrOf result Stop.Input → Rose (S.faults source.old) (S.faults source.new) }
+    ensures faults { S.faults source.old ≤ S.faults source.new }
+{
+    let form = match next_form(reader, source) {
+        Ok(form) => form,
+        Err(stop) => return Err(stop),
+    };
+    let Some(form) = form else {
+        return Err(Stop::Line(number));
+    };
+    match form {
+        Form::Event { octets } => {
+            if left == 0 {
+                return Err(Stop::Line(number));
             }
-            Form::End => {
-                if left != 0 {
-                    return Err(Stop::Line(number));
-                }
-                return Ok(());
-            }
-            Form::Head { .. } => return Err(Stop::Line(number)),
+            Ok(Some(octets))
         }
+        Form::End => {
+            if left != 0 {
+                return Err(Stop::Line(number));
+            }
+            Ok(None)
+        }
+        Form::Head { .. } => Err(Stop::Line(number)),
     }
 }
 

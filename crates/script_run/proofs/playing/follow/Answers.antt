@@ -74,8 +74,7 @@ returns-in-Over-clause-runs g c = λ tells Z H text holds unread.
     let p = c.in-Ok.ensures.runs tells Z H holds in
     subst (λ x. RunsGiven rules' view' says' Z H (items_on scripts' c.args.head.id c.args.head.count (given (lines_of text) c.args.head.count 2) x) (given (lines_of text) c.args.head.count 2).bad (view c.args.board.now) (view c.settle_and_say.new.board) c.settle_and_say.new.engine (written c.args.out.now) (written c.settle_and_say.new.out) c.end_over.result) (sym c.in-Over.is)
     (over_given rules' view' says' Z H (given (lines_of text) c.args.head.count 2).bad (view c.args.board.now) (view c.settle_and_say.new.board) c.settle_and_say.new.engine (written c.args.out.now) (written c.settle_and_say.new.out)
-    c.end_over.result p (c.end_over.ensures.answers text unread) c.end_over.ensures.none c.end_over.ensures.other
-    (λ G held. sym ((g.met.M.Machine.agrees c.settle_and_say.new.engine.machine).due Z G held.lawful held.shows) ∙ c.in-Ok.ensures.idle))
+    c.end_over.result p (c.end_over.ensures.answers text unread) c.end_over.ensures.none c.end_over.ensures.other)
 
 pub begin-requires-clause-course : goal.begin-requires-clause-course
 begin-requires-clause-course g c = course_keeps g.M.Machine.rules g.M.Scripted.scripts g.met.M.Scripted.scripted (g.M.Machine.view c.args.engine.now.machine) (g.M.Machine.view c.settle_and_say.new.engine.machine) c.args.head.id c.args.head.count Begins

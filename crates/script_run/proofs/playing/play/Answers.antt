@@ -15,7 +15,7 @@ use Rattle.script_run.specs.Course.{items_on, TakesCourse, IsCourse, GivesCourse
 use Rattle.script_run.specs.Playing.{Plays}
 use Rattle.script_run.proofs.RunLemmas.{err_is, is_err}
 use Rattle.script_run.proofs.TakesLemmas.{step_fault}
-use Rattle.script_run.proofs.PlayLemmas.{plays_head, plays_refused, plays_on, reader_left}
+use Rattle.script_run.proofs.PlayLemmas.{head_not, plays_head, plays_refused, plays_on, reader_left}
 use Rattle.script_run.proofs.playing.play.Goals as goal
 
 pub returns-in-Err-clause-plays : goal.returns-in-Err-clause-plays
@@ -66,3 +66,8 @@ follow-requires-clause-course g c =
     let s = c.requires.shows in
     let script : c.opened-script.result ≡ g.M.Scripted.scripts.script_of s.history = c.opened-script.ensures s.settings s.history s.lawful (subst (λ m. (view' m).shows s.settings s.history) (sym c.machine.ensures) s.shows) in
     record { settings = s.settings; history = s.history; lawful = s.lawful; shows = s.shows; stands = subst (λ s. IsCourse s c.in-Ok.head.id c.in-Ok.head.count c.in-Ok-course_of.course) script c.in-Ok-course_of.ensures }
+
+pub returns-in-Err-clause-idle : goal.returns-in-Err-clause-idle
+returns-in-Err-clause-idle g c = λ text left said taken.
+    let unread = reader_left c.new-reader.result (g.S.Source.left c.args.source.now) text c.new-reader.ensures left in
+    absurd (head_not text c.read_head.new.reader (g.S.Source.left c.read_head.new.source) c.in-Err.stop (c.in-Err.ensures.head text unread) said taken)

@@ -43,8 +43,8 @@ returns-clause-performs g c = λ tells Z H text lawful stands left.
     let written = g.K.Sink.written in
     let back = c.play.ensures.tells tells in
     let opened = c.in-Ok.ensures.opened back Z H lawful stands in
-    performs rules' view' says' scripts' Z H text (view c.args.board.now) (view c.open.new.board) (view c.play.new.board) c.play.new.engine (written c.args.out.now) (written c.play.new.out) stands opened.synced opened.sent
-    (g.met.B.Board.sound c.play.new.board) tells c.play.result (c.play.ensures.plays tells Z H text opened.holds left)
+    performs rules' view' says' scripts' Z H text (view c.args.board.now) (view c.open.new.board) (view c.play.new.board) c.play.new.engine (written c.args.out.now) (written c.play.new.out) (g.met.M.Machine.agrees c.play.new.engine.machine) stands opened.synced opened.sent
+    (g.met.B.Board.sound c.play.new.board) tells c.play.result (c.play.ensures.idle text left) (c.play.ensures.plays tells Z H text opened.holds left)
 
 pub returns-clause-nothing : goal.returns-clause-nothing
 returns-clause-nothing g c = λ tells none.

@@ -7,7 +7,7 @@ use Rattle.script_run.specs.declared.stop.Stop.{Stop}
 use Rattle.script_run.specs.Report.{says, outcome_line}
 use Rattle.script_run.specs.Run.{Runs}
 use Rattle.script_run.proofs.RunLemmas.{runs_start, moments_behind, runs_compose, one_outcome, appends_ok, err_is, is_err}
-use Rattle.script_run.proofs.RoomLemmas.{full_now, too_much_outcome}
+use Rattle.script_run.proofs.RoomLemmas.{had_room, full_now, too_much_outcome}
 use Rattle.script_run.proofs.Moves.{moves_none, moves_one, moves_compose, some_unless, some_of}
 use Rattle.script_run.proofs.settling.settle_and_say.Goals as goal
 
@@ -46,13 +46,14 @@ steps-preserved g c =
           let later = c.settle.ensures.any_moment tells Z (H ++ p.entries) p.holds in
           let settled = subst (Settled rules' view' Z (H ++ p.entries) (view c.steps.board) (view c.settle.new.board) c.settle.new.self) c.in-Ok-Some.field-0-is
           (c.in-Ok-Some.ensures.settled tells Z (H ++ p.entries) p.holds).settled in
+          let fits = (rw c.in-Ok-Some.field-0-is at c.in-Ok-Some.ensures.fits) refl c.in-Ok-Some.told in
           let due : c.next-step.result ≡ rules'.pending Z (H ++ p.entries) =
           c.next-step.ensures ∙ ap (λ m. (view' m).due) c.machine.ensures ∙ (g.met.M.Machine.agrees c.steps.engine.machine).due Z (H ++ p.entries) p.holds.lawful p.holds.shows in
           let said = appends_ok {E = Stop} (outcome_line c.next-step.result c.in-Ok-Some.told) (g.K.Sink.written c.steps.out) (g.K.Sink.written c.say_outcome.new.out) (Ok c.in-Ok.field-0) c.in-Ok.ensures.said in
           runs_compose rules' view' says' Z H [] [] (view c.args.board.now) (view c.steps.board) (view c.settle.new.board) c.steps.engine c.settle.new.self
           (g.K.Sink.written c.args.out.now) (g.K.Sink.written c.steps.out) (g.K.Sink.written c.say_outcome.new.out) p
           (one_outcome rules' view' says' Z (H ++ p.entries) (view c.steps.board) (view c.settle.new.board) c.settle.new.self (g.K.Sink.written c.steps.out) (g.K.Sink.written c.say_outcome.new.out)
-          c.in-Ok-Some.told c.steps.engine settled later (λ old is. said old is ∙ ap (λ s. Some (old ++ outcome_line s c.in-Ok-Some.told)) due));
+          c.in-Ok-Some.told c.steps.engine settled (had_room rules' view' Z (H ++ p.entries) (view c.steps.board) c.steps.engine p.holds (Outcome c.in-Ok-Some.told) fits) later (λ old is. said old is ∙ ap (λ s. Some (old ++ outcome_line s c.in-Ok-Some.told)) due));
     }
 
 pub returns-in-Err-say_outcome-clause-moments : goal.returns-in-Err-say_outcome-clause-moments

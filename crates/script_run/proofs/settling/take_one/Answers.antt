@@ -7,7 +7,7 @@ use Rattle.script_run.specs.declared.stop.Stop.{Stop}
 use Rattle.script_run.specs.Report.{says}
 use Rattle.script_run.specs.Run.{Runs, StopsFull}
 use Rattle.script_run.proofs.RunLemmas.{moments_behind, runs_compose, one_item, appends_ok, on_ok_map, err_is, is_err}
-use Rattle.script_run.proofs.RoomLemmas.{full_at_once, full_behind, too_much_item}
+use Rattle.script_run.proofs.RoomLemmas.{had_room, full_at_once, full_behind, too_much_item}
 use Rattle.script_run.proofs.Moves.{moves_one, moves_compose}
 use Rattle.pef_engine.proofs.Stored.{lawful-append}
 use Rattle.script_run.proofs.settling.take_one.Given
@@ -37,7 +37,7 @@ taken g c tells Z H holds =
     let allowed = ((g.met.M.Machine.agrees c.args.engine.now.machine).allowed Z H (Item c.args.item) holds.lawful holds.shows).0 c.requires.allowed in
     let after = c.in-Ok.ensures.taken mid Z H holds in
     one_item rules' view' says' Z H c.args.item (g.B.Board.view c.args.board.now) (g.B.Board.view c.take.new.board) c.take.new.self (g.K.Sink.written c.args.out.now) (g.K.Sink.written c.say_taken.new.out)
-    allowed after.taken after.sent (c.take.ensures.any_moment mid Z H holds)
+    allowed after.taken after.sent (had_room rules' view' Z H (g.B.Board.view c.args.board.now) c.args.engine.now holds (Item c.args.item) c.in-Ok.ensures.fits) (c.take.ensures.any_moment mid Z H holds)
     (appends_ok {E = Stop} (says' Z H (Item c.args.item)) (g.K.Sink.written c.args.out.now) (g.K.Sink.written c.say_taken.new.out) (Ok c.in-Ok-say_taken.field-0)
     (c.in-Ok-say_taken.ensures.said Z H (lawful-append rules' Z H (Item c.args.item) holds.lawful allowed) (subst (λ m. (view' m).shows Z (H ++ Item c.args.item ∷ [])) (sym c.machine.ensures) after.taken.shows)))
 

@@ -1,17 +1,17 @@
-use Rattle.std.proofs.Common.{rules, ◌≡◌, ◌≤◌, ◌<◌, ◌-◌, ◌+◌, ℕ, List, [], ◌∷◌, ◌++◌, Option, Some, None, Ok, Err, arith, sym, ◌∙◌, ap, subst, refl, IsTrue}
+use Rattle.std.proofs.Common.{rules, ◌≡◌, ◌≤◌, ◌<◌, ◌-◌, ◌+◌, ℕ, List, [], ◌∷◌, ◌++◌, Option, Some, None, Ok, Err, Result, is_some, arith, sym, ◌∙◌, ap, subst, refl, IsTrue}
 use Rattle.board_core.specs.Board.{LeavesOnly}
-use Rattle.script_text.specs.Lines.{lines_of}
-use Rattle.script_text.specs.Script.{GivesForm}
-use Rattle.script_text.specs.declared.form.Form.TheVariants.{Head, Event as EventForm, End}
 use Rattle.pef_engine.specs.declared.entry.Entry.{Entry}
 use Rattle.pef_engine.specs.CrashFree.{LeavesPrefix}
 use Rattle.pef_engine.specs.Engine.{Holds}
+use Rattle.script_text.specs.Lines.{lines_of}
+use Rattle.script_text.specs.Script.{given}
 use Rattle.script_run.specs.declared.stop.Stop.{Stop}
 use Rattle.script_run.specs.Report.{says}
+use Rattle.script_run.specs.Taking.{GivesEvent}
 use Rattle.script_run.specs.Run.{Runs, StopsFull, IsReadyFor, MovesOn}
 use Rattle.script_run.proofs.RunLemmas.{err_is, is_err}
 use Rattle.script_run.proofs.ScriptsLemmas.{event_allowed, closing_allowed, ready_more}
-use Rattle.script_run.proofs.TakesLemmas.{IsFault, takes_start, takes_skip, takes_event, takes_moments, stops_text, fault_text, event_fails, ends_text, close_fails, given_too_many, given_too_few, given_none, given_head}
+use Rattle.script_run.proofs.TakesLemmas.{not_taken, no_event, one_event, takes_start, takes_skip, takes_event, takes_moments, stops_next, event_fails, ends_text, close_fails}
 use Rattle.script_run.proofs.taking.take_lines.Goals as goal
 
 pub lines-init : goal.lines-init
@@ -40,13 +40,41 @@ returns-in-Err-clause-runs g c = λ tells Z H text holds unread.
     let written = g.K.Sink.written in
     let left = g.S.Source.left in
     let t = c.lines.invariant.takes tells Z H text holds unread in
-    let input : c.in-Err.stop ≡ Stop.Input = err_is (c.in-Err.ensures.input.0 refl) in
-    fault_text rules' view' says' scripts' Z H text c.args.count c.args.taken (view c.args.board.now) (view c.lines.board) c.lines.engine (written c.args.out.now) (written c.lines.out) c.in-Err.stop (subst IsFault (sym input) tt)
-    (takes_moments rules' view' says' scripts' Z H text c.args.count c.args.taken (view c.args.board.now) (view c.lines.board) c.lines.engine (written c.args.out.now) (written c.lines.out) c.lines.reader (left c.lines.source) c.lines.skip c.lines.left c.lines.number c.lines.items t)
-    (λ e. absurd (cc (e, input)))
+    stops_next rules' view' says' scripts' Z H text c.args.count c.args.taken (view c.args.board.now) (view c.lines.board) c.lines.engine (written c.args.out.now) (written c.lines.out) c.lines.reader (left c.lines.source) c.lines.skip c.lines.left c.lines.number c.lines.items t c.next_event.new.reader (left c.next_event.new.source) c.in-Err.stop (c.in-Err.ensures.given t.rest t.unread)
+
+pub returns-in-Err-clause-idle : goal.returns-in-Err-clause-idle
+returns-in-Err-clause-idle g c = λ taken. c.lines.invariant.ready.idle
+
+pub take_one-requires-clause-allowed : goal.take_one-requires-clause-allowed
+take_one-requires-clause-allowed g c =
+    let none : c.lines.left ≡ 0 = no_event c.in-Ok.event c.lines.left c.in-Ok.ensures.due c.in_default.is in
+    let all : c.lines.skip + (c.args.count - c.lines.left) ≡ c.args.count = omega (arith, none, c.lines.invariant.skip) in
+    closing_allowed g.M.Machine.rules g.M.Scripted.scripts g.met.M.Scripted.scripted (g.M.Machine.view c.lines.engine.machine) (g.met.M.Machine.agrees c.lines.engine.machine) c.args.count (c.lines.skip + (c.args.count - c.lines.left)) c.lines.invariant.ready
+    c.closing.result c.closing.ensures all
+
+pub returns-in-Err-take_one-clause-runs : goal.returns-in-Err-take_one-clause-runs
+returns-in-Err-take_one-clause-runs g c = λ tells Z H text holds unread.
+    let back = c.take_one.ensures.tells tells in
+    let rules' = g.M.Machine.rules in
+    let view' = g.M.Machine.view in
+    let scripts' = g.M.Scripted.scripts in
+    let says' = says rules' scripts' in
+    let view = g.B.Board.view in
+    let written = g.K.Sink.written in
+    let left = g.S.Source.left in
+    let t = c.lines.invariant.takes back Z H text holds unread in
+    let ended = subst (λ e. GivesEvent t.rest c.lines.left c.lines.number c.next_event.new.reader (left c.next_event.new.source) (Ok e)) c.in_default.is (c.in-Ok.ensures.given t.rest t.unread) in
+    close_fails rules' view' says' scripts' Z H text c.args.count c.args.taken (view c.args.board.now) (view c.lines.board) (view c.take_one.new.board) c.lines.engine c.take_one.new.engine (written c.args.out.now) (written c.lines.out) (written c.take_one.new.out) c.lines.reader (left c.lines.source) c.lines.skip c.lines.left c.lines.number c.lines.items c.in-Err-take_one.stop t ended c.in-Err-take_one.ensures.stops
+    (subst (λ i. LeavesOnly (view c.lines.board) (view c.take_one.new.board) (LeavesPrefix rules' Z (H ++ t.runs.entries) (view c.lines.board).sent (i ∷ []))) c.closing.ensures (c.take_one.ensures.moments tells Z (H ++ t.runs.entries) t.runs.holds))
+    (λ e. subst (λ i. StopsFull rules' view' says' Z (H ++ t.runs.entries) (i ∷ []) (view c.lines.board) (view c.take_one.new.board) c.take_one.new.engine (written c.lines.out) (written c.take_one.new.out)) c.closing.ensures
+    (c.in-Err-take_one.ensures.full tells Z (H ++ t.runs.entries) t.runs.holds (is_err e)))
+
+pub returns-in-Err-take_one-clause-idle : goal.returns-in-Err-take_one-clause-idle
+returns-in-Err-take_one-clause-idle g c = λ taken. absurd (not_taken ℕ c.in-Err-take_one.stop c.in-Err-take_one.ensures.stops taken)
 
 pub returns-in_default-clause-runs : goal.returns-in_default-clause-runs
 returns-in_default-clause-runs g c = λ tells Z H text holds unread.
+    let back = c.take_one.ensures.tells tells in
     let rules' = g.M.Machine.rules in
     let view' = g.M.Machine.view in
     let scripts' = g.M.Scripted.scripts in
@@ -54,68 +82,23 @@ returns-in_default-clause-runs g c = λ tells Z H text holds unread.
     let view = g.B.Board.view in
     let written = g.K.Sink.written in
     let left = g.S.Source.left in
-    let t = c.lines.invariant.takes tells Z H text holds unread in
-    let gives = subst (GivesForm t.rest c.next_form.new.reader (left c.next_form.new.source)) (c.in_default.is) (c.in-Ok.ensures.form t.rest t.unread) in
-    stops_text rules' view' says' scripts' Z H text c.args.count c.args.taken (view c.args.board.now) (view c.lines.board) c.lines.engine (written c.args.out.now) (written c.lines.out) c.lines.reader (left c.lines.source) c.lines.skip c.lines.left c.lines.number c.lines.items t
-    (given_none (lines_of t.rest) c.lines.left c.lines.number gives)
-
-pub returns-then-left-eq0-clause-runs : goal.returns-then-left-eq0-clause-runs
-returns-then-left-eq0-clause-runs g c = λ tells Z H text holds unread.
-    let rules' = g.M.Machine.rules in
-    let view' = g.M.Machine.view in
-    let scripts' = g.M.Scripted.scripts in
-    let says' = says rules' scripts' in
-    let view = g.B.Board.view in
-    let written = g.K.Sink.written in
-    let left = g.S.Source.left in
-    let t = c.lines.invariant.takes tells Z H text holds unread in
-    let form : c.in-Ok.form ≡ Some (EventForm c.in-Event.octets) = c.in-Some.is ∙ ap Some c.in-Event.is in
-    let gives = subst (GivesForm t.rest c.next_form.new.reader (left c.next_form.new.source)) form (c.in-Ok.ensures.form t.rest t.unread) in
-    stops_text rules' view' says' scripts' Z H text c.args.count c.args.taken (view c.args.board.now) (view c.lines.board) c.lines.engine (written c.args.out.now) (written c.lines.out) c.lines.reader (left c.lines.source) c.lines.skip c.lines.left c.lines.number c.lines.items t
-    (given_too_many t.rest gives.rest gives.line c.in-Event.octets c.lines.left c.lines.number gives.lines gives.has c.if-left-eq0.true)
-
-pub returns-then-left-ne0-clause-runs : goal.returns-then-left-ne0-clause-runs
-returns-then-left-ne0-clause-runs g c = λ tells Z H text holds unread.
-    let rules' = g.M.Machine.rules in
-    let view' = g.M.Machine.view in
-    let scripts' = g.M.Scripted.scripts in
-    let says' = says rules' scripts' in
-    let view = g.B.Board.view in
-    let written = g.K.Sink.written in
-    let left = g.S.Source.left in
-    let t = c.lines.invariant.takes tells Z H text holds unread in
-    let form : c.in-Ok.form ≡ Some End = c.in-Some.is ∙ ap Some c.in-End.is in
-    let gives = subst (GivesForm t.rest c.next_form.new.reader (left c.next_form.new.source)) form (c.in-Ok.ensures.form t.rest t.unread) in
-    let more : 0 < c.lines.left = omega (arith, c.if-left-ne0.true) in
-    stops_text rules' view' says' scripts' Z H text c.args.count c.args.taken (view c.args.board.now) (view c.lines.board) c.lines.engine (written c.args.out.now) (written c.lines.out) c.lines.reader (left c.lines.source) c.lines.skip c.lines.left c.lines.number c.lines.items t
-    (given_too_few t.rest gives.rest gives.line c.lines.left c.lines.number gives.lines gives.has more)
-
-pub returns-in-Head-clause-runs : goal.returns-in-Head-clause-runs
-returns-in-Head-clause-runs g c = λ tells Z H text holds unread.
-    let rules' = g.M.Machine.rules in
-    let view' = g.M.Machine.view in
-    let scripts' = g.M.Scripted.scripts in
-    let says' = says rules' scripts' in
-    let view = g.B.Board.view in
-    let written = g.K.Sink.written in
-    let left = g.S.Source.left in
-    let t = c.lines.invariant.takes tells Z H text holds unread in
-    let form : c.in-Ok.form ≡ Some (Head c.in-Head.id c.in-Head.count) = c.in-Some.is ∙ ap Some c.in-Head.is in
-    let gives = subst (GivesForm t.rest c.next_form.new.reader (left c.next_form.new.source)) form (c.in-Ok.ensures.form t.rest t.unread) in
-    stops_text rules' view' says' scripts' Z H text c.args.count c.args.taken (view c.args.board.now) (view c.lines.board) c.lines.engine (written c.args.out.now) (written c.lines.out) c.lines.reader (left c.lines.source) c.lines.skip c.lines.left c.lines.number c.lines.items t
-    (given_head t.rest gives.rest gives.line c.lines.left c.lines.number c.in-Head.id c.in-Head.count gives.lines gives.has)
+    let t = c.lines.invariant.takes back Z H text holds unread in
+    let ended = subst (λ e. GivesEvent t.rest c.lines.left c.lines.number c.next_event.new.reader (left c.next_event.new.source) (Ok e)) c.in_default.is (c.in-Ok.ensures.given t.rest t.unread) in
+    let r = subst (λ i. Runs rules' view' says' Z (H ++ t.runs.entries) (i ∷ []) (view c.lines.board) (view c.take_one.new.board) c.take_one.new.engine (written c.lines.out) (written c.take_one.new.out)) c.closing.ensures
+    (c.in-Ok-take_one.ensures.runs tells Z (H ++ t.runs.entries) t.runs.holds) in
+    ends_text rules' view' says' scripts' Z H text c.args.count c.args.taken (view c.args.board.now) (view c.lines.board) (view c.take_one.new.board) c.lines.engine c.take_one.new.engine (written c.args.out.now) (written c.lines.out) (written c.take_one.new.out) c.lines.reader (left c.lines.source) c.lines.skip c.lines.left c.lines.number c.lines.items t ended r
 
 pub lines-preserved-then-skip-gt0 : goal.lines-preserved-then-skip-gt0
 lines-preserved-then-skip-gt0 g c =
-    let more : 0 < c.lines.left = omega (arith, c.if-left-eq0.false) in record {
+    let more : 0 < c.lines.left = one_event c.in-Ok.event c.lines.left c.in-Ok.ensures.due c.in-Some.octets c.in-Some.is in record {
       live = c.lines.invariant.live;
       place = c.lines.invariant.place;
-      line = omega (arith, c.lines.invariant.line, c.if-left-eq0.false);
+      line = omega (arith, c.lines.invariant.line, more);
       items = omega (arith, c.lines.invariant.items);
       skip = omega (arith, c.lines.invariant.skip, c.if-skip-gt0.true);
       disk = c.lines.invariant.disk;
       output = c.lines.invariant.output;
-      input = omega (arith, c.lines.invariant.input, c.next_form.ensures.input.1.1);
+      input = omega (arith, c.lines.invariant.input, c.next_event.ensures.faults);
       tells = c.lines.invariant.tells;
       ready =
           let within : c.lines.left ≤ c.args.count = omega (arith, c.lines.invariant.items) in
@@ -130,14 +113,20 @@ lines-preserved-then-skip-gt0 g c =
           let written = g.K.Sink.written in
           let left = g.S.Source.left in
           let t = c.lines.invariant.takes tells Z H text holds unread in
-          let form : c.in-Ok.form ≡ Some (EventForm c.in-Event.octets) = c.in-Some.is ∙ ap Some c.in-Event.is in
-          let gives = subst (GivesForm t.rest c.next_form.new.reader (left c.next_form.new.source)) form (c.in-Ok.ensures.form t.rest t.unread) in
-          takes_skip rules' view' says' scripts' Z H text c.args.count c.args.taken (view c.args.board.now) (view c.lines.board) c.lines.engine (written c.args.out.now) (written c.lines.out) c.lines.reader c.next_form.new.reader (left c.lines.source) (left c.next_form.new.source) c.lines.skip c.lines.left c.lines.number c.lines.items c.in-Event.octets t gives more c.if-skip-gt0.true;
+          let one = subst (λ e. GivesEvent t.rest c.lines.left c.lines.number c.next_event.new.reader (left c.next_event.new.source) (Ok e)) c.in-Some.is (c.in-Ok.ensures.given t.rest t.unread) in
+          takes_skip rules' view' says' scripts' Z H text c.args.count c.args.taken (view c.args.board.now) (view c.lines.board) c.lines.engine (written c.args.out.now) (written c.lines.out) c.lines.reader c.next_event.new.reader (left c.lines.source) (left c.next_event.new.source) c.lines.skip c.lines.left c.lines.number c.lines.items c.in-Some.octets t one c.if-skip-gt0.true;
     }
 
-pub returns-in-Err-take_one-clause-runs : goal.returns-in-Err-take_one-clause-runs
-returns-in-Err-take_one-clause-runs g c = λ tells Z H text holds unread.
-    let back = c.take_one.ensures.tells tells in
+pub take_one-requires-in-lines-clause-allowed : goal.take_one-requires-in-lines-clause-allowed
+take_one-requires-in-lines-clause-allowed g c =
+    let more : 0 < c.lines.left = one_event c.in-Ok.event c.lines.left c.in-Ok.ensures.due c.in-Some.octets c.in-Some.is in
+    let within : c.lines.skip + (c.args.count - c.lines.left) < c.args.count = omega (arith, more, c.if-skip-gt0.false, c.lines.invariant.items) in
+    event_allowed g.M.Machine.rules g.M.Scripted.scripts g.met.M.Scripted.scripted (g.M.Machine.view c.lines.engine.machine) (g.met.M.Machine.agrees c.lines.engine.machine) c.args.count (c.lines.skip + (c.args.count - c.lines.left)) c.lines.invariant.ready
+    c.event.result c.in-Some.octets c.event.ensures.item c.event.ensures.entry within
+
+pub returns-in-Err-take_one-2-clause-runs : goal.returns-in-Err-take_one-2-clause-runs
+returns-in-Err-take_one-2-clause-runs g c = λ tells Z H text holds unread.
+    let back = c.take_one-in-lines.ensures.tells tells in
     let rules' = g.M.Machine.rules in
     let view' = g.M.Machine.view in
     let scripts' = g.M.Scripted.scripts in
@@ -146,36 +135,37 @@ returns-in-Err-take_one-clause-runs g c = λ tells Z H text holds unread.
     let written = g.K.Sink.written in
     let left = g.S.Source.left in
     let t = c.lines.invariant.takes back Z H text holds unread in
-    let form : c.in-Ok.form ≡ Some (EventForm c.in-Event.octets) = c.in-Some.is ∙ ap Some c.in-Event.is in
-    let gives = subst (GivesForm t.rest c.next_form.new.reader (left c.next_form.new.source)) form (c.in-Ok.ensures.form t.rest t.unread) in
-    let more : 0 < c.lines.left = omega (arith, c.if-left-eq0.false) in
+    let one = subst (λ e. GivesEvent t.rest c.lines.left c.lines.number c.next_event.new.reader (left c.next_event.new.source) (Ok e)) c.in-Some.is (c.in-Ok.ensures.given t.rest t.unread) in
     let none : c.lines.skip ≡ 0 = omega (arith, c.if-skip-gt0.false) in
-    event_fails rules' view' says' scripts' Z H text c.args.count c.args.taken (view c.args.board.now) (view c.lines.board) (view c.take_one.new.board) c.lines.engine c.take_one.new.engine (written c.args.out.now) (written c.lines.out) (written c.take_one.new.out) c.lines.reader c.next_form.new.reader (left c.lines.source) (left c.next_form.new.source) c.lines.skip c.lines.left c.lines.number c.lines.items c.in-Event.octets c.in-Err-take_one.stop t gives more none c.in-Err-take_one.ensures.stops
-    (subst (λ i. LeavesOnly (view c.lines.board) (view c.take_one.new.board) (LeavesPrefix rules' Z (H ++ t.runs.entries) (view c.lines.board).sent (i ∷ []))) c.event.ensures.item (c.take_one.ensures.moments tells Z (H ++ t.runs.entries) t.runs.holds))
-    (λ e. subst (λ i. StopsFull rules' view' says' Z (H ++ t.runs.entries) (i ∷ []) (view c.lines.board) (view c.take_one.new.board) c.take_one.new.engine (written c.lines.out) (written c.take_one.new.out)) c.event.ensures.item
-    (c.in-Err-take_one.ensures.full tells Z (H ++ t.runs.entries) t.runs.holds (is_err e)))
+    event_fails rules' view' says' scripts' Z H text c.args.count c.args.taken (view c.args.board.now) (view c.lines.board) (view c.take_one-in-lines.new.board) c.lines.engine c.take_one-in-lines.new.engine (written c.args.out.now) (written c.lines.out) (written c.take_one-in-lines.new.out) c.lines.reader c.next_event.new.reader (left c.lines.source) (left c.next_event.new.source) c.lines.skip c.lines.left c.lines.number c.lines.items c.in-Some.octets c.in-Err-take_one-2.stop t one none c.in-Err-take_one-2.ensures.stops
+    (subst (λ i. LeavesOnly (view c.lines.board) (view c.take_one-in-lines.new.board) (LeavesPrefix rules' Z (H ++ t.runs.entries) (view c.lines.board).sent (i ∷ []))) c.event.ensures.item (c.take_one-in-lines.ensures.moments tells Z (H ++ t.runs.entries) t.runs.holds))
+    (λ e. subst (λ i. StopsFull rules' view' says' Z (H ++ t.runs.entries) (i ∷ []) (view c.lines.board) (view c.take_one-in-lines.new.board) c.take_one-in-lines.new.engine (written c.lines.out) (written c.take_one-in-lines.new.out)) c.event.ensures.item
+    (c.in-Err-take_one-2.ensures.full tells Z (H ++ t.runs.entries) t.runs.holds (is_err e)))
+
+pub returns-in-Err-take_one-2-clause-idle : goal.returns-in-Err-take_one-2-clause-idle
+returns-in-Err-take_one-2-clause-idle g c = λ taken. absurd (not_taken ℕ c.in-Err-take_one-2.stop c.in-Err-take_one-2.ensures.stops taken)
 
 pub lines-preserved : goal.lines-preserved
 lines-preserved g c =
-    let more : 0 < c.lines.left = omega (arith, c.if-left-eq0.false) in
+    let more : 0 < c.lines.left = one_event c.in-Ok.event c.lines.left c.in-Ok.ensures.due c.in-Some.octets c.in-Some.is in
     let none : c.lines.skip ≡ 0 = omega (arith, c.if-skip-gt0.false) in record {
-      live = c.in-Ok-take_one.ensures.live.0;
-      place = c.in-Ok-take_one.ensures.live.1;
+      live = c.in-Ok-take_one-2.ensures.live.0;
+      place = c.in-Ok-take_one-2.ensures.live.1;
       line = omega (arith, c.lines.invariant.line, more);
       items = omega (arith, c.lines.invariant.items, more);
       skip = omega (arith, none);
-      disk = omega (arith, c.lines.invariant.disk, c.take_one.ensures.faults.0);
-      output = omega (arith, c.lines.invariant.output, c.take_one.ensures.faults.1);
-      input = omega (arith, c.lines.invariant.input, c.next_form.ensures.input.1.1);
-      tells = λ t. c.lines.invariant.tells (c.take_one.ensures.tells t);
+      disk = omega (arith, c.lines.invariant.disk, c.take_one-in-lines.ensures.faults.0);
+      output = omega (arith, c.lines.invariant.output, c.take_one-in-lines.ensures.faults.1);
+      input = omega (arith, c.lines.invariant.input, c.next_event.ensures.faults);
+      tells = λ t. c.lines.invariant.tells (c.take_one-in-lines.ensures.tells t);
       ready =
           let within : c.lines.left ≤ c.args.count = omega (arith, c.lines.invariant.items) in
           let n : (c.lines.skip + (c.args.count - c.lines.left)) + 1 ≡ c.lines.skip + (c.args.count - (c.lines.left - 1)) = omega (arith, within, more, none) in
-          subst (IsReadyFor g.M.Machine.rules g.M.Scripted.scripts (g.M.Machine.view c.take_one.new.engine.machine) c.args.count) n
+          subst (IsReadyFor g.M.Machine.rules g.M.Scripted.scripts (g.M.Machine.view c.take_one-in-lines.new.engine.machine) c.args.count) n
           (ready_more g.M.Machine.rules g.M.Scripted.scripts g.met.M.Scripted.scripted (g.M.Machine.view c.lines.engine.machine) (g.met.M.Machine.agrees c.lines.engine.machine) c.args.count (c.lines.skip + (c.args.count - c.lines.left)) c.lines.invariant.ready
-          (g.M.Machine.view c.take_one.new.engine.machine) c.event.result c.in-Event.octets c.event.ensures.item c.in-Ok-take_one.ensures.moves c.in-Ok-take_one.ensures.idle);
+          (g.M.Machine.view c.take_one-in-lines.new.engine.machine) c.event.result c.in-Some.octets c.event.ensures.item c.in-Ok-take_one-2.ensures.moves c.in-Ok-take_one-2.ensures.idle);
       takes = λ tells Z H text holds unread.
-          let back = c.take_one.ensures.tells tells in
+          let back = c.take_one-in-lines.ensures.tells tells in
           let rules' = g.M.Machine.rules in
           let view' = g.M.Machine.view in
           let scripts' = g.M.Scripted.scripts in
@@ -184,59 +174,8 @@ lines-preserved g c =
           let written = g.K.Sink.written in
           let left = g.S.Source.left in
           let t = c.lines.invariant.takes back Z H text holds unread in
-          let form : c.in-Ok.form ≡ Some (EventForm c.in-Event.octets) = c.in-Some.is ∙ ap Some c.in-Event.is in
-          let gives = subst (GivesForm t.rest c.next_form.new.reader (left c.next_form.new.source)) form (c.in-Ok.ensures.form t.rest t.unread) in
-          let r = subst (λ i. Runs rules' view' says' Z (H ++ t.runs.entries) (i ∷ []) (view c.lines.board) (view c.take_one.new.board) c.take_one.new.engine (written c.lines.out) (written c.take_one.new.out)) c.event.ensures.item
-          (c.in-Ok-take_one.ensures.runs tells Z (H ++ t.runs.entries) t.runs.holds) in
-          takes_event rules' view' says' scripts' Z H text c.args.count c.args.taken (view c.args.board.now) (view c.lines.board) (view c.take_one.new.board) c.lines.engine c.take_one.new.engine (written c.args.out.now) (written c.lines.out) (written c.take_one.new.out) c.lines.reader c.next_form.new.reader (left c.lines.source) (left c.next_form.new.source) c.lines.skip c.lines.left c.lines.number c.lines.items c.in-Event.octets t gives more none r;
+          let one = subst (λ e. GivesEvent t.rest c.lines.left c.lines.number c.next_event.new.reader (left c.next_event.new.source) (Ok e)) c.in-Some.is (c.in-Ok.ensures.given t.rest t.unread) in
+          let r = subst (λ i. Runs rules' view' says' Z (H ++ t.runs.entries) (i ∷ []) (view c.lines.board) (view c.take_one-in-lines.new.board) c.take_one-in-lines.new.engine (written c.lines.out) (written c.take_one-in-lines.new.out)) c.event.ensures.item
+          (c.in-Ok-take_one-2.ensures.runs tells Z (H ++ t.runs.entries) t.runs.holds) in
+          takes_event rules' view' says' scripts' Z H text c.args.count c.args.taken (view c.args.board.now) (view c.lines.board) (view c.take_one-in-lines.new.board) c.lines.engine c.take_one-in-lines.new.engine (written c.args.out.now) (written c.lines.out) (written c.take_one-in-lines.new.out) c.lines.reader c.next_event.new.reader (left c.lines.source) (left c.next_event.new.source) c.lines.skip c.lines.left c.lines.number c.lines.items c.in-Some.octets t one none r;
     }
-
-pub returns-in-Err-take_one-2-clause-runs : goal.returns-in-Err-take_one-2-clause-runs
-returns-in-Err-take_one-2-clause-runs g c = λ tells Z H text holds unread.
-    let back = c.take_one-in-End.ensures.tells tells in
-    let rules' = g.M.Machine.rules in
-    let view' = g.M.Machine.view in
-    let scripts' = g.M.Scripted.scripts in
-    let says' = says rules' scripts' in
-    let view = g.B.Board.view in
-    let written = g.K.Sink.written in
-    let left = g.S.Source.left in
-    let t = c.lines.invariant.takes back Z H text holds unread in
-    let form : c.in-Ok.form ≡ Some End = c.in-Some.is ∙ ap Some c.in-End.is in
-    let gives = subst (GivesForm t.rest c.next_form.new.reader (left c.next_form.new.source)) form (c.in-Ok.ensures.form t.rest t.unread) in
-    let none : c.lines.left ≡ 0 = omega (arith, c.if-left-ne0.false) in
-    close_fails rules' view' says' scripts' Z H text c.args.count c.args.taken (view c.args.board.now) (view c.lines.board) (view c.take_one-in-End.new.board) c.lines.engine c.take_one-in-End.new.engine (written c.args.out.now) (written c.lines.out) (written c.take_one-in-End.new.out) c.lines.reader c.next_form.new.reader (left c.lines.source) (left c.next_form.new.source) c.lines.skip c.lines.left c.lines.number c.lines.items c.in-Err-take_one-2.stop t gives none c.in-Err-take_one-2.ensures.stops
-    (subst (λ i. LeavesOnly (view c.lines.board) (view c.take_one-in-End.new.board) (LeavesPrefix rules' Z (H ++ t.runs.entries) (view c.lines.board).sent (i ∷ []))) c.closing.ensures (c.take_one-in-End.ensures.moments tells Z (H ++ t.runs.entries) t.runs.holds))
-    (λ e. subst (λ i. StopsFull rules' view' says' Z (H ++ t.runs.entries) (i ∷ []) (view c.lines.board) (view c.take_one-in-End.new.board) c.take_one-in-End.new.engine (written c.lines.out) (written c.take_one-in-End.new.out)) c.closing.ensures
-    (c.in-Err-take_one-2.ensures.full tells Z (H ++ t.runs.entries) t.runs.holds (is_err e)))
-
-pub returns-in-End-clause-runs : goal.returns-in-End-clause-runs
-returns-in-End-clause-runs g c = λ tells Z H text holds unread.
-    let back = c.take_one-in-End.ensures.tells tells in
-    let rules' = g.M.Machine.rules in
-    let view' = g.M.Machine.view in
-    let scripts' = g.M.Scripted.scripts in
-    let says' = says rules' scripts' in
-    let view = g.B.Board.view in
-    let written = g.K.Sink.written in
-    let left = g.S.Source.left in
-    let t = c.lines.invariant.takes back Z H text holds unread in
-    let form : c.in-Ok.form ≡ Some End = c.in-Some.is ∙ ap Some c.in-End.is in
-    let gives = subst (GivesForm t.rest c.next_form.new.reader (left c.next_form.new.source)) form (c.in-Ok.ensures.form t.rest t.unread) in
-    let none : c.lines.left ≡ 0 = omega (arith, c.if-left-ne0.false) in
-    let r = subst (λ i. Runs rules' view' says' Z (H ++ t.runs.entries) (i ∷ []) (view c.lines.board) (view c.take_one-in-End.new.board) c.take_one-in-End.new.engine (written c.lines.out) (written c.take_one-in-End.new.out)) c.closing.ensures
-    (c.in-Ok-take_one-2.ensures.runs tells Z (H ++ t.runs.entries) t.runs.holds) in
-    ends_text rules' view' says' scripts' Z H text c.args.count c.args.taken (view c.args.board.now) (view c.lines.board) (view c.take_one-in-End.new.board) c.lines.engine c.take_one-in-End.new.engine (written c.args.out.now) (written c.lines.out) (written c.take_one-in-End.new.out) c.lines.reader c.next_form.new.reader (left c.lines.source) (left c.next_form.new.source) c.lines.skip c.lines.left c.lines.number c.lines.items t gives none r
-    (λ G held. sym ((g.met.M.Machine.agrees c.take_one-in-End.new.engine.machine).due Z G held.lawful held.shows) ∙ c.in-Ok-take_one-2.ensures.idle)
-
-pub take_one-requires-clause-allowed : goal.take_one-requires-clause-allowed
-take_one-requires-clause-allowed g c =
-    let within : c.lines.skip + (c.args.count - c.lines.left) < c.args.count = omega (arith, c.if-left-eq0.false, c.if-skip-gt0.false, c.lines.invariant.items) in
-    event_allowed g.M.Machine.rules g.M.Scripted.scripts g.met.M.Scripted.scripted (g.M.Machine.view c.lines.engine.machine) (g.met.M.Machine.agrees c.lines.engine.machine) c.args.count (c.lines.skip + (c.args.count - c.lines.left)) c.lines.invariant.ready
-    c.event.result c.in-Event.octets c.event.ensures.item c.event.ensures.entry within
-
-pub take_one-requires-in-End-clause-allowed : goal.take_one-requires-in-End-clause-allowed
-take_one-requires-in-End-clause-allowed g c =
-    let all : c.lines.skip + (c.args.count - c.lines.left) ≡ c.args.count = omega (arith, c.if-left-ne0.false, c.lines.invariant.skip) in
-    closing_allowed g.M.Machine.rules g.M.Scripted.scripts g.met.M.Scripted.scripted (g.M.Machine.view c.lines.engine.machine) (g.met.M.Machine.agrees c.lines.engine.machine) c.args.count (c.lines.skip + (c.args.count - c.lines.left)) c.lines.invariant.ready
-    c.closing.result c.closing.ensures all
