@@ -40,7 +40,8 @@ const SCRIPT: &str = "script 00000001 1\nevent 01000200ca9a3b200004043001521020\
 
 const SAID: &str = "open 00000001 1\nevent 0001\nact diagnostic 0001 done\nclose\nok 3\n";
 
-// Entries with their gates: a script of one item is opened, a fan's event, what its step was told, and the script is closed.
+// Entries with their gates: a script of one item is opened, a fan's event, what its step was told, and the script is
+// closed.
 const OPENED: [u8; 12] = [0xa5, 9, 0, 5, 1, 0, 0, 0, 1, 0, 0, 0];
 
 const EVENT: [u8; 20] = [
@@ -48,6 +49,8 @@ const EVENT: [u8; 20] = [
 ];
 
 const DONE: [u8; 5] = [0xa5, 2, 0, 0x10, 0];
+
+const FAILED: [u8; 5] = [0xa5, 2, 0, 0x10, 1];
 
 const CLOSED: [u8; 4] = [0xa5, 1, 0, 6];
 

@@ -1,12 +1,10 @@
 // The form `run`: each way out, with its last line, the file that it leaves and the steps.
 use super::{
-    CLOSED, CONSOLE, Case, DONE, EVENT, MADE, OPENED, SAID, SCRIPT, check, event, file_with,
+    CLOSED, CONSOLE, Case, DONE, EVENT, FAILED, MADE, OPENED, SAID, SCRIPT, check, event, file_with,
 };
 use std::alloc::{AllocError, Global};
 
 const RUN: [&str; 3] = ["run", "state", "script"];
-
-const FAILED: [u8; 5] = [0xa5, 2, 0, 0x10, 1];
 
 // A script of two items, or of none, is opened.
 const TWO_OPENED: [u8; 12] = [0xa5, 9, 0, 5, 1, 0, 0, 0, 2, 0, 0, 0];
