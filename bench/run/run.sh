@@ -1,0 +1,97 @@
+#!/usr/bin/env bash
+# How fast `run` stores entries, beside a plain C loop that makes as many synced appends, and how fast it opens a state file.
+# Outside the merge gate. It builds no Rattle: it takes crates/pef_cli/out/pef_cli, which ./demo at the top proves and builds.
+# The two take turns, and the least of five times counts. Times are of whole processes, but of the C loop alone; entries are counted by
+# the report's lines, less the last.
+# usage: run.sh [DISK_ENTRIES] [MEMORY_ENTRIES]      DISK is the folder for the files on the disk, or else they lie in this repository
+set -eu
+on_disk=${1:-6000}
+in_memory=${2:-300000}
+here=$(cd "$(dirname "$0")" && pwd)
+top=$(cd "$here/../.." && pwd)
+program=$top/crates/pef_cli/out/pef_cli
+[ -x "$program" ] || { echo "$program is missing: ./demo at the top proves and builds it" >&2; exit 1; }
+disk=$(mktemp -d "${DISK:-$top}/bench-XXXXXX")
+memory=$(mktemp -d /dev/shm/bench-XXXXXX)
+trap 'rm -rf "$disk" "$memory"' EXIT
+/bin/gcc -O2 -o "$memory/appends" "$here/appends.c"
+
+# make_script FILE COUNT: events whose IDs go from 1 to 1,000 again and again, for which the filter asks no action
+make_script() {
+    awk -v n="$2" 'BEGIN {
+        printf "script 00000001 %d\n", n
+        for (i = 0; i < n; i++) { id = i % 1000 + 1; printf "event %02x%02x0200ca9a3b200004043001531020\n", id % 256, int(id / 256) }
+        print "end"
+    }' > "$1"
+}
+
+# make_state FILE OCTETS SAME: a state file of about so many octets, whose entries open and close a script of no event and then are
+# events that the filter asks no action for, under one ID, or under IDs from 1 to 1,000 again and again
+make_state() {
+    python3 - "$@" <<'PYTHON'
+import sys
+path, octets, same = sys.argv[1], int(sys.argv[2]), sys.argv[3] == "one"
+settings = bytes(26) + bytes([162, 0, 162, 0, 162, 0, 1, 63, 0]) + bytes.fromhex("80200010ffff04ff010400000000000000000000")
+def entry(payload):
+    return b"\xa5" + len(payload).to_bytes(2, "little") + payload
+parts = [b"\xa5\x01\x37\x00" + settings, entry(b"\x05" + bytes(8)), entry(b"\x06")]
+for i in range((octets - 75) // 20):
+    number = 1 if same else i % 1000 + 1
+    parts.append(entry(b"\x01" + number.to_bytes(2, "little") + bytes.fromhex("0200ca9a3b200004043001531020")))
+open(path, "wb").write(b"".join(parts) + b"\x00")
+print(len(parts) - 1)
+PYTHON
+}
+
+# seconds COMMAND..: how long it takes; its output goes to the file `out` in memory
+seconds() {
+    local start end
+    start=$(date +%s%N)
+    "$@" > "$memory/out"
+    end=$(date +%s%N)
+    awk -v a="$start" -v b="$end" 'BEGIN { printf "%.6f\n", (b - a) / 1e9 }'
+}
+
+echo 'filter = "80200010ffff04ff010400000000000000000000"' > "$memory/settings"
+
+# least: the least of the numbers of the lines
+least() {
+    sort -n | head -n 1
+}
+
+# store NAME FOLDER COUNT
+store() {
+    local name=$1 folder=$2 count=$3 entries
+    make_script "$memory/script" "$count"
+    : > "$memory/runs"
+    : > "$memory/loops"
+    for _ in 1 2 3 4 5; do
+        rm -f "$folder/state" "$folder/appended"
+        "$program" init "$folder/state" "$memory/settings" > /dev/null
+        seconds "$program" run "$folder/state" "$memory/script" >> "$memory/runs"
+        entries=$(($(wc -l < "$memory/out") - 1))
+        [ "$(tail -n 1 "$memory/out")" = "ok $entries" ]
+        "$memory/appends" "$folder/appended" "$entries" >> "$memory/loops"
+    done
+    awk -v name="$name" -v n="$entries" -v t="$(least < "$memory/runs")" -v c="$(least < "$memory/loops")" 'BEGIN {
+        printf "%-10s %7d entries   run %6.2f s %9.0f a second   C loop %6.2f s %9.0f a second   ratio %.2f\n", name, n, t, n / t, c, n / c, c / t
+    }'
+}
+
+store "on disk" "$disk" "$on_disk"
+store "in memory" "$memory" "$in_memory"
+
+# opening NAME OCTETS SAME: each call opens the file, finds its script closed, and stores nothing
+printf 'script 00000000 0\nend\n' > "$memory/closed"
+opening() {
+    local entries took
+    entries=$(make_state "$memory/opened" "$2" "$3")
+    took=$(for _ in 1 2 3 4 5; do seconds "$program" run "$memory/opened" "$memory/closed"; done | least)
+    [ "$(cat "$memory/out")" = "ok 0" ]
+    awk -v name="$1" -v n="$entries" -v t="$took" 'BEGIN { printf "%-22s %7d entries   %.4f s %9.0f a second\n", name, n, t, n / t }'
+}
+
+opening "open 2 MiB, one ID" 2097152 one
+opening "open 4 MiB, one ID" 4194304 one
+opening "open 2 MiB, 1,000 IDs" 2097152 many
+opening "open 4 MiB, 1,000 IDs" 4194304 many

@@ -1,0 +1,196 @@
+// The form `init`, and words of no form.
+use super::{CONSOLE, Case, LINE, MADE, UNMARKED, check, words_in};
+use crate::form::{Form, Paths};
+use crate::words::paths;
+
+const WORDS: [&str; 3] = ["init", "state", "settings.toml"];
+
+const MADE_OF_NOTHING: Case<'static> = Case {
+    what: "an empty file",
+    file: &[],
+    text: LINE,
+    failing_disk: &[],
+    failing_issue: &[],
+    failing_source: &[],
+    failing_sink: None,
+    status: 0,
+    written: "ok 0\n",
+    after: &MADE,
+    steps: &[],
+};
+
+#[test]
+fn init_leaves_and_says(rt: HostRuntime) {
+    let made = MADE_OF_NOTHING;
+    let refused = Case {
+        what: "a bad text",
+        text: "filter = \"80\"",
+        status: 4,
+        written: "settings text\n",
+        after: &[],
+        ..made
+    };
+    let formatted = Case {
+        what: "a controller's file",
+        file: &MADE,
+        status: 11,
+        written: "formatted\n",
+        ..made
+    };
+    let unread = Case {
+        what: "a source that fails",
+        failing_source: &[0],
+        status: 6,
+        written: "input failed\n",
+        after: &[],
+        ..made
+    };
+    let mut longer = [0x77; 70];
+    longer[..60].copy_from_slice(&MADE);
+    let cases = [
+        made,
+        Case {
+            what: "the mark alone",
+            file: &[0xa5],
+            ..made
+        },
+        Case {
+            what: "a longer file",
+            file: &[0x77; 70],
+            after: &longer,
+            ..made
+        },
+        Case {
+            what: "a line end",
+            text: "filter = \"80200010FFFF04FF010400000000000000000000\"\n",
+            ..made
+        },
+        refused,
+        Case {
+            what: "an empty text",
+            text: "",
+            ..refused
+        },
+        Case {
+            what: "a bad text for an unformatted file",
+            file: &[0xa5, 1, 55],
+            after: &[0xa5, 1, 55],
+            ..refused
+        },
+        formatted,
+        Case {
+            what: "a console's file",
+            file: &CONSOLE,
+            after: &CONSOLE,
+            ..formatted
+        },
+        Case {
+            what: "a formatted file before a bad text",
+            text: "",
+            ..formatted
+        },
+        Case {
+            what: "a formatted file before a source that fails",
+            failing_source: &[0],
+            ..formatted
+        },
+        unread,
+        Case {
+            what: "a source that fails at the end",
+            failing_source: &[1],
+            ..unread
+        },
+        Case {
+            what: "a sink that fails",
+            failing_sink: Some(0),
+            status: 8,
+            written: "",
+            ..made
+        },
+        Case {
+            what: "a sink that fails at a refusal",
+            failing_sink: Some(0),
+            written: "",
+            ..refused
+        },
+    ];
+    for case in &cases {
+        check(&rt, rt.alloc(), &WORDS, case);
+    }
+}
+
+#[test]
+fn init_stops_at_each_call_of_the_disk(rt: HostRuntime) {
+    let rows: [(u64, &[u8]); 9] = [
+        (0, &[]),
+        (1, &[]),
+        (2, &[]),
+        (3, &[]),
+        (4, &[0]),
+        (5, &[0]),
+        (6, &UNMARKED),
+        (7, &UNMARKED),
+        (8, &MADE),
+    ];
+    for (call, after) in rows {
+        let failed = Case {
+            what: "a disk that fails",
+            failing_disk: &[call],
+            status: 7,
+            written: "disk failed\n",
+            after,
+            ..MADE_OF_NOTHING
+        };
+        check(&rt, rt.alloc(), &WORDS, &failed);
+    }
+    let before_the_text = Case {
+        what: "a disk that fails before a bad text",
+        text: "",
+        failing_disk: &[0],
+        status: 7,
+        written: "disk failed\n",
+        after: &[],
+        ..MADE_OF_NOTHING
+    };
+    check(&rt, rt.alloc(), &WORDS, &before_the_text);
+}
+
+#[test]
+fn other_words_are_no_form(rt: HostRuntime) {
+    let alloc = rt.alloc();
+    let places = |form| Paths {
+        form,
+        state: 1,
+        second: 2,
+        arrivals: 0,
+    };
+    let rows: [(&[&str], Option<Paths>); 10] = [
+        (
+            &["init", "state", "settings.toml"],
+            Some(places(Form::Init)),
+        ),
+        (&["run", "state", "script"], Some(places(Form::Run))),
+        (&[], None),
+        (&["init"], None),
+        (&["init", "state"], None),
+        (&["init", "state", "settings.toml", "more"], None),
+        (&["INIT", "state", "settings.toml"], None),
+        (&["initialise", "state", "settings.toml"], None),
+        (&["--help"], None),
+        (&["live", "state", "127.0.0.1:623", "1"], None),
+    ];
+    for (words, form) in rows {
+        let all = words_in(alloc, words).expect(&rt, "memory");
+        assert_eq!(rt; paths(all.as_slice()), form, "{words:?}");
+        if form.is_none() {
+            let unused = Case {
+                what: "words of no form",
+                status: 2,
+                written: "usage\n",
+                after: &[],
+                ..MADE_OF_NOTHING
+            };
+            check(&rt, rt.alloc(), words, &unused);
+        }
+    }
+}
