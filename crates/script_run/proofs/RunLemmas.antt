@@ -9,6 +9,8 @@ use Rattle.board_core.specs.Source.{Appends}
 use Rattle.pef_engine.specs.declared.entry.Entry.{Entry}
 use Rattle.pef_engine.specs.declared.entry.Entry.TheVariants.{Item, Outcome}
 use Rattle.pef_engine.specs.declared.engine.Engine.{Engine}
+use Rattle.pef_engine.specs.declared.faults.EngineFault.{EngineFault}
+use Rattle.pef_engine.specs.declared.faults.EngineFault.TheVariants as engine_fault
 use Rattle.pef_engine.specs.Rules.{Rules, LawfulFrom, Lawful, Allowed}
 use Rattle.pef_engine.specs.MachineView.{MachineView, Agrees}
 use Rattle.pef_engine.specs.CrashFree.{LeavesPrefix, prescribed, option_list, entry_items, entry_tolds, items_of}
@@ -35,6 +37,12 @@ err_is e = cc e
 
 pub is_err : {T E : Type 0} {x y : E} → x ≡ y → IsErrOf {T = T} {E = E} (Err x) y
 is_err e = cc e
+
+pub full_not_disk : {T : Type 0} (fault : EngineFault) → fault ≡ engine_fault.Full → IsErrOf {T = T} (Err fault) engine_fault.DiskFault → ⊥
+full_not_disk fault is disk =
+    let same : fault ≡ engine_fault.DiskFault = cc disk in
+    let clash : engine_fault.Full ≡ engine_fault.DiskFault = sym is ∙ same in
+    cc clash
 
 pub on_ok_map : {T E P Q : Type 0} (r : Result T E) → (P → Q) → OnOk r P → OnOk r Q
 on_ok_map (Ok x) f h = f h

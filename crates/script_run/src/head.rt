@@ -27,10 +27,7 @@ pub(crate) fn read_head<S: Source>(reader: &mut Reader, source: &mut S) -> Resul
     ensures other { (IsErrOf result Stop.Disk → ⊥) × (IsErrOf result Stop.Output → ⊥) × (IsErrOf result Stop.Full → ⊥) × (IsErrOf result Stop.Memory → ⊥) × (IsErrOf result Stop.Unformatted → ⊥)
         × ((id count : ℕ) → IsErrOf result (Stop.Unfinished id count) → ⊥) }
 {
-    let form = match next_form(reader, source) {
-        Ok(form) => form,
-        Err(stop) => return Err(stop),
-    };
+    let form = next_form(reader, source)?;
     let Some(form) = form else {
         return Err(Stop::Line(1));
     };

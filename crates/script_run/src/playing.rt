@@ -47,15 +47,9 @@ pub(crate) fn play<M: Scripted, B: Board, S: Source, K: Sink>(
     ensures idle { (text : List ℕ) → S.left source.old ≡ Some text → IsSome (said_of text) → IsTaken result → (M.view engine.new.machine).due ≡ None }
 {
     let mut reader = Reader::new();
-    let head = match read_head(&mut reader, source) {
-        Ok(head) => head,
-        Err(stop) => return Err(stop),
-    };
+    let head = read_head(&mut reader, source)?;
     let script = engine.machine().opened();
-    let course = match course_of(&script, head.id, head.count) {
-        Ok(course) => course,
-        Err(stop) => return Err(stop),
-    };
+    let course = course_of(&script, head.id, head.count)?;
     follow(engine, board, source, out, &mut reader, head, course)
 }
 
@@ -86,10 +80,7 @@ fn follow<M: Scripted, B: Board, S: Source, K: Sink>(
     ensures other { ((id count : ℕ) → IsErrOf result (Stop.Unfinished id count) → ⊥) × (IsErrOf result Stop.Unformatted → ⊥) }
     ensures idle { IsTaken result → (M.view engine.new.machine).due ≡ None }
 {
-    match settle_and_say(engine, board, out) {
-        Ok(()) => {}
-        Err(stop) => return Err(stop),
-    }
+    settle_and_say(engine, board, out)?;
     match course {
         Course::Begins => begin(engine, board, source, out, reader, head),
         Course::GoesOn { taken } => take_lines(
@@ -126,14 +117,8 @@ fn begin<M: Scripted, B: Board, S: Source, K: Sink>(
     ensures other { ((id count : ℕ) → IsErrOf result (Stop.Unfinished id count) → ⊥) × (IsErrOf result Stop.Unformatted → ⊥) }
     ensures idle { IsTaken result → (M.view engine.new.machine).due ≡ None }
 {
-    match take_one(engine, board, out, M::opening(head.id, head.count)) {
-        Ok(()) => {}
-        Err(stop) => return Err(stop),
-    }
-    let items = match take_lines(engine, board, source, out, reader, head.count, 0) {
-        Ok(items) => items,
-        Err(stop) => return Err(stop),
-    };
+    take_one(engine, board, out, M::opening(head.id, head.count))?;
+    let items = take_lines(engine, board, source, out, reader, head.count, 0)?;
     Ok(items + 1)
 }
 

@@ -45,10 +45,7 @@ pub(crate) fn settle_and_say<M: Scripted, B: Board, K: Sink>(
         let step = engine.machine().next();
         match engine.settle(board) {
             Ok(None) => return Ok(()),
-            Ok(Some(told)) => match say_outcome(out, &step, told) {
-                Ok(()) => {}
-                Err(stop) => return Err(stop),
-            },
+            Ok(Some(told)) => say_outcome(out, &step, told)?,
             Err(fault) => return Err(stop_of(fault)),
         }
     }
@@ -88,9 +85,6 @@ pub(crate) fn take_one<M: Scripted, B: Board, K: Sink>(
         Ok(()) => {}
         Err(fault) => return Err(stop_of(fault)),
     }
-    match say_taken(engine.machine(), &entry, out) {
-        Ok(()) => {}
-        Err(stop) => return Err(stop),
-    }
+    say_taken(engine.machine(), &entry, out)?;
     settle_and_say(engine, board, out)
 }

@@ -51,15 +51,8 @@ pub(crate) fn take_lines<M: Scripted, B: Board, S: Source, K: Sink>(
     let mut number = 2u32;
     let mut items = 0u32;
     'lines: loop {
-        let event = match next_event(reader, source, left, number) {
-            Ok(event) => event,
-            Err(stop) => return Err(stop),
-        };
-        let Some(octets) = event else {
-            match take_one(engine, board, out, M::closing()) {
-                Ok(()) => {}
-                Err(stop) => return Err(stop),
-            }
+        let Some(octets) = next_event(reader, source, left, number)? else {
+            take_one(engine, board, out, M::closing())?;
             return Ok(items + 1);
         };
         left -= 1;
@@ -68,10 +61,7 @@ pub(crate) fn take_lines<M: Scripted, B: Board, S: Source, K: Sink>(
             skip -= 1;
             continue 'lines;
         }
-        match take_one(engine, board, out, M::event(octets)) {
-            Ok(()) => {}
-            Err(stop) => return Err(stop),
-        }
+        take_one(engine, board, out, M::event(octets))?;
         items += 1;
     }
 }
@@ -92,11 +82,7 @@ pub(crate) fn pass_over<S: Source>(
     let mut left = count;
     let mut number = 2u32;
     'lines: loop {
-        let event = match next_event(reader, source, left, number) {
-            Ok(event) => event,
-            Err(stop) => return Err(stop),
-        };
-        let Some(_) = event else {
+        let Some(_) = next_event(reader, source, left, number)? else {
             return Ok(());
         };
         left -= 1;
@@ -118,11 +104,7 @@ fn next_event<S: Source>(
     ensures input { IsErrOf result Stop.Input → Rose (S.faults source.old) (S.faults source.new) }
     ensures faults { S.faults source.old ≤ S.faults source.new }
 {
-    let form = match next_form(reader, source) {
-        Ok(form) => form,
-        Err(stop) => return Err(stop),
-    };
-    let Some(form) = form else {
+    let Some(form) = next_form(reader, source)? else {
         return Err(Stop::Line(number));
     };
     match form {

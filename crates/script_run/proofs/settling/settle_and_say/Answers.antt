@@ -49,15 +49,15 @@ steps-preserved g c =
           let fits = (rw c.in-Ok-Some.field-0-is at c.in-Ok-Some.ensures.fits) refl c.in-Ok-Some.told in
           let due : c.next-step.result ≡ rules'.pending Z (H ++ p.entries) =
           c.next-step.ensures ∙ ap (λ m. (view' m).due) c.machine.ensures ∙ (g.met.M.Machine.agrees c.steps.engine.machine).due Z (H ++ p.entries) p.holds.lawful p.holds.shows in
-          let said = appends_ok {E = Stop} (outcome_line c.next-step.result c.in-Ok-Some.told) (g.K.Sink.written c.steps.out) (g.K.Sink.written c.say_outcome.new.out) (Ok c.in-Ok.field-0) c.in-Ok.ensures.said in
+          let said = appends_ok {E = Stop} (outcome_line c.next-step.result c.in-Ok-Some.told) (g.K.Sink.written c.steps.out) (g.K.Sink.written c.say_outcome.new.out) (Ok tt) c.in_ok-say_outcome-in-Ok-Some.ensures.said in
           runs_compose rules' view' says' Z H [] [] (view c.args.board.now) (view c.steps.board) (view c.settle.new.board) c.steps.engine c.settle.new.self
           (g.K.Sink.written c.args.out.now) (g.K.Sink.written c.steps.out) (g.K.Sink.written c.say_outcome.new.out) p
           (one_outcome rules' view' says' Z (H ++ p.entries) (view c.steps.board) (view c.settle.new.board) c.settle.new.self (g.K.Sink.written c.steps.out) (g.K.Sink.written c.say_outcome.new.out)
           c.in-Ok-Some.told c.steps.engine settled (had_room rules' view' Z (H ++ p.entries) (view c.steps.board) c.steps.engine p.holds (Outcome c.in-Ok-Some.told) fits) later (λ old is. said old is ∙ ap (λ s. Some (old ++ outcome_line s c.in-Ok-Some.told)) due));
     }
 
-pub returns-in-Err-say_outcome-clause-moments : goal.returns-in-Err-say_outcome-clause-moments
-returns-in-Err-say_outcome-clause-moments g c = λ tells Z H holds.
+pub returns-in_err-say_outcome-in-Ok-Some-clause-moments : goal.returns-in_err-say_outcome-in-Ok-Some-clause-moments
+returns-in_err-say_outcome-in-Ok-Some-clause-moments g c = λ tells Z H holds.
     let view = g.B.Board.view in
     let p = c.steps.invariant.runs (c.settle.ensures.tells tells) Z H holds in
     let later = c.settle.ensures.any_moment tells Z (H ++ p.entries) p.holds in

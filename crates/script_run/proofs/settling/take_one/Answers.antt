@@ -6,7 +6,7 @@ use Rattle.pef_engine.specs.Engine.{Holds}
 use Rattle.script_run.specs.declared.stop.Stop.{Stop}
 use Rattle.script_run.specs.Report.{says}
 use Rattle.script_run.specs.Run.{Runs, StopsFull}
-use Rattle.script_run.proofs.RunLemmas.{moments_behind, runs_compose, one_item, appends_ok, on_ok_map, err_is, is_err}
+use Rattle.script_run.proofs.RunLemmas.{full_not_disk, moments_behind, runs_compose, one_item, appends_ok, on_ok_map, err_is, is_err}
 use Rattle.script_run.proofs.RoomLemmas.{had_room, full_at_once, full_behind, too_much_item}
 use Rattle.script_run.proofs.Moves.{moves_one, moves_compose}
 use Rattle.pef_engine.proofs.Stored.{lawful-append}
@@ -20,8 +20,8 @@ returns-in-Err-clause-full g c = λ tells Z H holds err.
     let says' = says rules' g.M.Scripted.scripts in
     let view = g.B.Board.view in
     let was = c.stop_of.ensures.full.0 (err_is err) in
-    let same = c.in-Err.ensures.unchanged refl (λ d. cc (err_is d, was)) in
-    let held = (c.in-Err.ensures.taken tells Z H holds).refused refl (λ d. cc (err_is d, was)) in
+    let same = c.in-Err.ensures.unchanged refl (full_not_disk c.in-Err.fault was) in
+    let held = (c.in-Err.ensures.taken tells Z H holds).refused refl (full_not_disk c.in-Err.fault was) in
     let allowed = ((g.met.M.Machine.agrees c.args.engine.now.machine).allowed Z H (Item c.args.item) holds.lawful holds.shows).0 c.requires.allowed in
     let too_much = too_much_item rules' view' Z H (view c.args.board.now) c.args.engine.now holds c.args.item (c.in-Err.ensures.full (is_err was)) in
     subst (λ (v : BoardView). StopsFull rules' view' says' Z H (c.args.item ∷ []) v (view c.take.new.board) c.take.new.self (g.K.Sink.written c.args.out.now) (g.K.Sink.written c.args.out.now)) (ap (λ b. view b) same.0)
@@ -38,8 +38,8 @@ taken g c tells Z H holds =
     let after = c.in-Ok.ensures.taken mid Z H holds in
     one_item rules' view' says' Z H c.args.item (g.B.Board.view c.args.board.now) (g.B.Board.view c.take.new.board) c.take.new.self (g.K.Sink.written c.args.out.now) (g.K.Sink.written c.say_taken.new.out)
     allowed after.taken after.sent (had_room rules' view' Z H (g.B.Board.view c.args.board.now) c.args.engine.now holds (Item c.args.item) c.in-Ok.ensures.fits) (c.take.ensures.any_moment mid Z H holds)
-    (appends_ok {E = Stop} (says' Z H (Item c.args.item)) (g.K.Sink.written c.args.out.now) (g.K.Sink.written c.say_taken.new.out) (Ok c.in-Ok-say_taken.field-0)
-    (c.in-Ok-say_taken.ensures.said Z H (lawful-append rules' Z H (Item c.args.item) holds.lawful allowed) (subst (λ m. (view' m).shows Z (H ++ Item c.args.item ∷ [])) (sym c.machine.ensures) after.taken.shows)))
+    (appends_ok {E = Stop} (says' Z H (Item c.args.item)) (g.K.Sink.written c.args.out.now) (g.K.Sink.written c.say_taken.new.out) (Ok tt)
+    (c.in_ok-say_taken.ensures.said Z H (lawful-append rules' Z H (Item c.args.item) holds.lawful allowed) (subst (λ m. (view' m).shows Z (H ++ Item c.args.item ∷ [])) (sym c.machine.ensures) after.taken.shows)))
 
 pub returns-clause-runs : goal.returns-clause-runs
 returns-clause-runs g c = λ tells Z H holds.

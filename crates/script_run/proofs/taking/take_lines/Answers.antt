@@ -1,3 +1,4 @@
+use Rattle.std.proofs.lemmas.Result.{err_from_is_err_and}
 use Rattle.std.proofs.Common.{rules, ◌≡◌, ◌≤◌, ◌<◌, ◌-◌, ◌+◌, ℕ, List, [], ◌∷◌, ◌++◌, Option, Some, None, Ok, Err, Result, is_some, arith, sym, ◌∙◌, ap, subst, refl, IsTrue}
 use Rattle.board_core.specs.Board.{LeavesOnly}
 use Rattle.pef_engine.specs.declared.entry.Entry.{Entry}
@@ -30,8 +31,8 @@ lines-init g c = record {
       c.args.engine.now (g.K.Sink.written c.args.out.now) c.args.reader.now (g.S.Source.left c.args.source.now) (g.met.B.Board.sound c.args.board.now) tells holds left;
 }
 
-pub returns-in-Err-clause-runs : goal.returns-in-Err-clause-runs
-returns-in-Err-clause-runs g c = λ tells Z H text holds unread.
+pub returns-in_err-octets-clause-runs : goal.returns-in_err-octets-clause-runs
+returns-in_err-octets-clause-runs g c = λ tells Z H text holds unread.
     let rules' = g.M.Machine.rules in
     let view' = g.M.Machine.view in
     let scripts' = g.M.Scripted.scripts in
@@ -40,20 +41,18 @@ returns-in-Err-clause-runs g c = λ tells Z H text holds unread.
     let written = g.K.Sink.written in
     let left = g.S.Source.left in
     let t = c.lines.invariant.takes tells Z H text holds unread in
-    stops_next rules' view' says' scripts' Z H text c.args.count c.args.taken (view c.args.board.now) (view c.lines.board) c.lines.engine (written c.args.out.now) (written c.lines.out) c.lines.reader (left c.lines.source) c.lines.skip c.lines.left c.lines.number c.lines.items t c.next_event.new.reader (left c.next_event.new.source) c.in-Err.stop (c.in-Err.ensures.given t.rest t.unread)
-
-pub returns-in-Err-clause-idle : goal.returns-in-Err-clause-idle
-returns-in-Err-clause-idle g c = λ taken. c.lines.invariant.ready.idle
+    let p = err_from_is_err_and c.from_residual.result c.from_residual.ensures.1 in
+    rw (p.1, p.2) (stops_next rules' view' says' scripts' Z H text c.args.count c.args.taken (view c.args.board.now) (view c.lines.board) c.lines.engine (written c.args.out.now) (written c.lines.out) c.lines.reader (left c.lines.source) c.lines.skip c.lines.left c.lines.number c.lines.items t c.next_event.new.reader (left c.next_event.new.source) c.in_err-octets.field-0.0 (c.in_err-octets.ensures.given t.rest t.unread))
 
 pub take_one-requires-clause-allowed : goal.take_one-requires-clause-allowed
 take_one-requires-clause-allowed g c =
-    let none : c.lines.left ≡ 0 = no_event c.in-Ok.event c.lines.left c.in-Ok.ensures.due c.in_default.is in
+    let none : c.lines.left ≡ 0 = no_event c.in_ok-octets.field-0 c.lines.left c.in_ok-octets.ensures.due c.in_default.is in
     let all : c.lines.skip + (c.args.count - c.lines.left) ≡ c.args.count = omega (arith, none, c.lines.invariant.skip) in
     closing_allowed g.M.Machine.rules g.M.Scripted.scripts g.met.M.Scripted.scripted (g.M.Machine.view c.lines.engine.machine) (g.met.M.Machine.agrees c.lines.engine.machine) c.args.count (c.lines.skip + (c.args.count - c.lines.left)) c.lines.invariant.ready
     c.closing.result c.closing.ensures all
 
-pub returns-in-Err-take_one-clause-runs : goal.returns-in-Err-take_one-clause-runs
-returns-in-Err-take_one-clause-runs g c = λ tells Z H text holds unread.
+pub returns-in_err-take_one-clause-runs : goal.returns-in_err-take_one-clause-runs
+returns-in_err-take_one-clause-runs g c = λ tells Z H text holds unread.
     let back = c.take_one.ensures.tells tells in
     let rules' = g.M.Machine.rules in
     let view' = g.M.Machine.view in
@@ -63,14 +62,12 @@ returns-in-Err-take_one-clause-runs g c = λ tells Z H text holds unread.
     let written = g.K.Sink.written in
     let left = g.S.Source.left in
     let t = c.lines.invariant.takes back Z H text holds unread in
-    let ended = subst (λ e. GivesEvent t.rest c.lines.left c.lines.number c.next_event.new.reader (left c.next_event.new.source) (Ok e)) c.in_default.is (c.in-Ok.ensures.given t.rest t.unread) in
-    close_fails rules' view' says' scripts' Z H text c.args.count c.args.taken (view c.args.board.now) (view c.lines.board) (view c.take_one.new.board) c.lines.engine c.take_one.new.engine (written c.args.out.now) (written c.lines.out) (written c.take_one.new.out) c.lines.reader (left c.lines.source) c.lines.skip c.lines.left c.lines.number c.lines.items c.in-Err-take_one.stop t ended c.in-Err-take_one.ensures.stops
+    let ended = subst (λ e. GivesEvent t.rest c.lines.left c.lines.number c.next_event.new.reader (left c.next_event.new.source) (Ok e)) c.in_default.is (c.in_ok-octets.ensures.given t.rest t.unread) in
+    let p = err_from_is_err_and c.from_residual-in_err-take_one.result c.from_residual-in_err-take_one.ensures.1 in
+    rw (p.1, p.2) (close_fails rules' view' says' scripts' Z H text c.args.count c.args.taken (view c.args.board.now) (view c.lines.board) (view c.take_one.new.board) c.lines.engine c.take_one.new.engine (written c.args.out.now) (written c.lines.out) (written c.take_one.new.out) c.lines.reader (left c.lines.source) c.lines.skip c.lines.left c.lines.number c.lines.items c.in_err-take_one.field-0.0 t ended c.in_err-take_one.ensures.stops
     (subst (λ i. LeavesOnly (view c.lines.board) (view c.take_one.new.board) (LeavesPrefix rules' Z (H ++ t.runs.entries) (view c.lines.board).sent (i ∷ []))) c.closing.ensures (c.take_one.ensures.moments tells Z (H ++ t.runs.entries) t.runs.holds))
     (λ e. subst (λ i. StopsFull rules' view' says' Z (H ++ t.runs.entries) (i ∷ []) (view c.lines.board) (view c.take_one.new.board) c.take_one.new.engine (written c.lines.out) (written c.take_one.new.out)) c.closing.ensures
-    (c.in-Err-take_one.ensures.full tells Z (H ++ t.runs.entries) t.runs.holds (is_err e)))
-
-pub returns-in-Err-take_one-clause-idle : goal.returns-in-Err-take_one-clause-idle
-returns-in-Err-take_one-clause-idle g c = λ taken. absurd (not_taken ℕ c.in-Err-take_one.stop c.in-Err-take_one.ensures.stops taken)
+    (c.in_err-take_one.ensures.full tells Z (H ++ t.runs.entries) t.runs.holds (is_err e))))
 
 pub returns-in_default-clause-runs : goal.returns-in_default-clause-runs
 returns-in_default-clause-runs g c = λ tells Z H text holds unread.
@@ -83,14 +80,14 @@ returns-in_default-clause-runs g c = λ tells Z H text holds unread.
     let written = g.K.Sink.written in
     let left = g.S.Source.left in
     let t = c.lines.invariant.takes back Z H text holds unread in
-    let ended = subst (λ e. GivesEvent t.rest c.lines.left c.lines.number c.next_event.new.reader (left c.next_event.new.source) (Ok e)) c.in_default.is (c.in-Ok.ensures.given t.rest t.unread) in
+    let ended = subst (λ e. GivesEvent t.rest c.lines.left c.lines.number c.next_event.new.reader (left c.next_event.new.source) (Ok e)) c.in_default.is (c.in_ok-octets.ensures.given t.rest t.unread) in
     let r = subst (λ i. Runs rules' view' says' Z (H ++ t.runs.entries) (i ∷ []) (view c.lines.board) (view c.take_one.new.board) c.take_one.new.engine (written c.lines.out) (written c.take_one.new.out)) c.closing.ensures
-    (c.in-Ok-take_one.ensures.runs tells Z (H ++ t.runs.entries) t.runs.holds) in
+    (c.in_ok-take_one.ensures.runs tells Z (H ++ t.runs.entries) t.runs.holds) in
     ends_text rules' view' says' scripts' Z H text c.args.count c.args.taken (view c.args.board.now) (view c.lines.board) (view c.take_one.new.board) c.lines.engine c.take_one.new.engine (written c.args.out.now) (written c.lines.out) (written c.take_one.new.out) c.lines.reader (left c.lines.source) c.lines.skip c.lines.left c.lines.number c.lines.items t ended r
 
 pub lines-preserved-then-skip-gt0 : goal.lines-preserved-then-skip-gt0
 lines-preserved-then-skip-gt0 g c =
-    let more : 0 < c.lines.left = one_event c.in-Ok.event c.lines.left c.in-Ok.ensures.due c.in-Some.octets c.in-Some.is in record {
+    let more : 0 < c.lines.left = one_event c.in_ok-octets.field-0 c.lines.left c.in_ok-octets.ensures.due c.in-Some.octets c.in-Some.is in record {
       live = c.lines.invariant.live;
       place = c.lines.invariant.place;
       line = omega (arith, c.lines.invariant.line, more);
@@ -113,19 +110,19 @@ lines-preserved-then-skip-gt0 g c =
           let written = g.K.Sink.written in
           let left = g.S.Source.left in
           let t = c.lines.invariant.takes tells Z H text holds unread in
-          let one = subst (λ e. GivesEvent t.rest c.lines.left c.lines.number c.next_event.new.reader (left c.next_event.new.source) (Ok e)) c.in-Some.is (c.in-Ok.ensures.given t.rest t.unread) in
+          let one = subst (λ e. GivesEvent t.rest c.lines.left c.lines.number c.next_event.new.reader (left c.next_event.new.source) (Ok e)) c.in-Some.is (c.in_ok-octets.ensures.given t.rest t.unread) in
           takes_skip rules' view' says' scripts' Z H text c.args.count c.args.taken (view c.args.board.now) (view c.lines.board) c.lines.engine (written c.args.out.now) (written c.lines.out) c.lines.reader c.next_event.new.reader (left c.lines.source) (left c.next_event.new.source) c.lines.skip c.lines.left c.lines.number c.lines.items c.in-Some.octets t one c.if-skip-gt0.true;
     }
 
 pub take_one-requires-in-lines-clause-allowed : goal.take_one-requires-in-lines-clause-allowed
 take_one-requires-in-lines-clause-allowed g c =
-    let more : 0 < c.lines.left = one_event c.in-Ok.event c.lines.left c.in-Ok.ensures.due c.in-Some.octets c.in-Some.is in
+    let more : 0 < c.lines.left = one_event c.in_ok-octets.field-0 c.lines.left c.in_ok-octets.ensures.due c.in-Some.octets c.in-Some.is in
     let within : c.lines.skip + (c.args.count - c.lines.left) < c.args.count = omega (arith, more, c.if-skip-gt0.false, c.lines.invariant.items) in
     event_allowed g.M.Machine.rules g.M.Scripted.scripts g.met.M.Scripted.scripted (g.M.Machine.view c.lines.engine.machine) (g.met.M.Machine.agrees c.lines.engine.machine) c.args.count (c.lines.skip + (c.args.count - c.lines.left)) c.lines.invariant.ready
     c.event.result c.in-Some.octets c.event.ensures.item c.event.ensures.entry within
 
-pub returns-in-Err-take_one-2-clause-runs : goal.returns-in-Err-take_one-2-clause-runs
-returns-in-Err-take_one-2-clause-runs g c = λ tells Z H text holds unread.
+pub returns-in_err-take_one-2-clause-runs : goal.returns-in_err-take_one-2-clause-runs
+returns-in_err-take_one-2-clause-runs g c = λ tells Z H text holds unread.
     let back = c.take_one-in-lines.ensures.tells tells in
     let rules' = g.M.Machine.rules in
     let view' = g.M.Machine.view in
@@ -135,22 +132,20 @@ returns-in-Err-take_one-2-clause-runs g c = λ tells Z H text holds unread.
     let written = g.K.Sink.written in
     let left = g.S.Source.left in
     let t = c.lines.invariant.takes back Z H text holds unread in
-    let one = subst (λ e. GivesEvent t.rest c.lines.left c.lines.number c.next_event.new.reader (left c.next_event.new.source) (Ok e)) c.in-Some.is (c.in-Ok.ensures.given t.rest t.unread) in
+    let one = subst (λ e. GivesEvent t.rest c.lines.left c.lines.number c.next_event.new.reader (left c.next_event.new.source) (Ok e)) c.in-Some.is (c.in_ok-octets.ensures.given t.rest t.unread) in
     let none : c.lines.skip ≡ 0 = omega (arith, c.if-skip-gt0.false) in
-    event_fails rules' view' says' scripts' Z H text c.args.count c.args.taken (view c.args.board.now) (view c.lines.board) (view c.take_one-in-lines.new.board) c.lines.engine c.take_one-in-lines.new.engine (written c.args.out.now) (written c.lines.out) (written c.take_one-in-lines.new.out) c.lines.reader c.next_event.new.reader (left c.lines.source) (left c.next_event.new.source) c.lines.skip c.lines.left c.lines.number c.lines.items c.in-Some.octets c.in-Err-take_one-2.stop t one none c.in-Err-take_one-2.ensures.stops
+    let p = err_from_is_err_and c.from_residual-in_err-take_one-2.result c.from_residual-in_err-take_one-2.ensures.1 in
+    rw (p.1, p.2) (event_fails rules' view' says' scripts' Z H text c.args.count c.args.taken (view c.args.board.now) (view c.lines.board) (view c.take_one-in-lines.new.board) c.lines.engine c.take_one-in-lines.new.engine (written c.args.out.now) (written c.lines.out) (written c.take_one-in-lines.new.out) c.lines.reader c.next_event.new.reader (left c.lines.source) (left c.next_event.new.source) c.lines.skip c.lines.left c.lines.number c.lines.items c.in-Some.octets c.in_err-take_one-2.field-0.0 t one none c.in_err-take_one-2.ensures.stops
     (subst (λ i. LeavesOnly (view c.lines.board) (view c.take_one-in-lines.new.board) (LeavesPrefix rules' Z (H ++ t.runs.entries) (view c.lines.board).sent (i ∷ []))) c.event.ensures.item (c.take_one-in-lines.ensures.moments tells Z (H ++ t.runs.entries) t.runs.holds))
     (λ e. subst (λ i. StopsFull rules' view' says' Z (H ++ t.runs.entries) (i ∷ []) (view c.lines.board) (view c.take_one-in-lines.new.board) c.take_one-in-lines.new.engine (written c.lines.out) (written c.take_one-in-lines.new.out)) c.event.ensures.item
-    (c.in-Err-take_one-2.ensures.full tells Z (H ++ t.runs.entries) t.runs.holds (is_err e)))
-
-pub returns-in-Err-take_one-2-clause-idle : goal.returns-in-Err-take_one-2-clause-idle
-returns-in-Err-take_one-2-clause-idle g c = λ taken. absurd (not_taken ℕ c.in-Err-take_one-2.stop c.in-Err-take_one-2.ensures.stops taken)
+    (c.in_err-take_one-2.ensures.full tells Z (H ++ t.runs.entries) t.runs.holds (is_err e))))
 
 pub lines-preserved : goal.lines-preserved
 lines-preserved g c =
-    let more : 0 < c.lines.left = one_event c.in-Ok.event c.lines.left c.in-Ok.ensures.due c.in-Some.octets c.in-Some.is in
+    let more : 0 < c.lines.left = one_event c.in_ok-octets.field-0 c.lines.left c.in_ok-octets.ensures.due c.in-Some.octets c.in-Some.is in
     let none : c.lines.skip ≡ 0 = omega (arith, c.if-skip-gt0.false) in record {
-      live = c.in-Ok-take_one-2.ensures.live.0;
-      place = c.in-Ok-take_one-2.ensures.live.1;
+      live = c.in_ok-take_one-2.ensures.live.0;
+      place = c.in_ok-take_one-2.ensures.live.1;
       line = omega (arith, c.lines.invariant.line, more);
       items = omega (arith, c.lines.invariant.items, more);
       skip = omega (arith, none);
@@ -163,7 +158,7 @@ lines-preserved g c =
           let n : (c.lines.skip + (c.args.count - c.lines.left)) + 1 ≡ c.lines.skip + (c.args.count - (c.lines.left - 1)) = omega (arith, within, more, none) in
           subst (IsReadyFor g.M.Machine.rules g.M.Scripted.scripts (g.M.Machine.view c.take_one-in-lines.new.engine.machine) c.args.count) n
           (ready_more g.M.Machine.rules g.M.Scripted.scripts g.met.M.Scripted.scripted (g.M.Machine.view c.lines.engine.machine) (g.met.M.Machine.agrees c.lines.engine.machine) c.args.count (c.lines.skip + (c.args.count - c.lines.left)) c.lines.invariant.ready
-          (g.M.Machine.view c.take_one-in-lines.new.engine.machine) c.event.result c.in-Some.octets c.event.ensures.item c.in-Ok-take_one-2.ensures.moves c.in-Ok-take_one-2.ensures.idle);
+          (g.M.Machine.view c.take_one-in-lines.new.engine.machine) c.event.result c.in-Some.octets c.event.ensures.item c.in_ok-take_one-2.ensures.moves c.in_ok-take_one-2.ensures.idle);
       takes = λ tells Z H text holds unread.
           let back = c.take_one-in-lines.ensures.tells tells in
           let rules' = g.M.Machine.rules in
@@ -174,8 +169,8 @@ lines-preserved g c =
           let written = g.K.Sink.written in
           let left = g.S.Source.left in
           let t = c.lines.invariant.takes back Z H text holds unread in
-          let one = subst (λ e. GivesEvent t.rest c.lines.left c.lines.number c.next_event.new.reader (left c.next_event.new.source) (Ok e)) c.in-Some.is (c.in-Ok.ensures.given t.rest t.unread) in
+          let one = subst (λ e. GivesEvent t.rest c.lines.left c.lines.number c.next_event.new.reader (left c.next_event.new.source) (Ok e)) c.in-Some.is (c.in_ok-octets.ensures.given t.rest t.unread) in
           let r = subst (λ i. Runs rules' view' says' Z (H ++ t.runs.entries) (i ∷ []) (view c.lines.board) (view c.take_one-in-lines.new.board) c.take_one-in-lines.new.engine (written c.lines.out) (written c.take_one-in-lines.new.out)) c.event.ensures.item
-          (c.in-Ok-take_one-2.ensures.runs tells Z (H ++ t.runs.entries) t.runs.holds) in
+          (c.in_ok-take_one-2.ensures.runs tells Z (H ++ t.runs.entries) t.runs.holds) in
           takes_event rules' view' says' scripts' Z H text c.args.count c.args.taken (view c.args.board.now) (view c.lines.board) (view c.take_one-in-lines.new.board) c.lines.engine c.take_one-in-lines.new.engine (written c.args.out.now) (written c.lines.out) (written c.take_one-in-lines.new.out) c.lines.reader c.next_event.new.reader (left c.lines.source) (left c.next_event.new.source) c.lines.skip c.lines.left c.lines.number c.lines.items c.in-Some.octets t one none r;
     }
