@@ -56,10 +56,7 @@ impl<M: Machine> Engine<M> {
         ensures place { IsLive self.new → HasPlace (B.view board.new) self.new }
         ensures run { IsFileRun (B.view board.old) (B.view board.new) }
     {
-        match make_ready(&mut self.machine, entry) {
-            Ok(()) => {}
-            Err(fault) => return Err(fault),
-        }
+        make_ready(&mut self.machine, entry)?;
         let payload = M::encode_entry(entry);
         if !self.journal.room(payload.as_slice().len()) {
             return Err(EngineFault::Full);

@@ -86,10 +86,7 @@ impl<M: Machine> Engine<M> {
             if !machine.allows(&entry) {
                 return Err(EngineFault::Corrupt { at: gate });
             }
-            match make_ready(&mut machine, &entry) {
-                Ok(()) => {}
-                Err(fault) => return Err(fault),
-            }
+            make_ready(&mut machine, &entry)?;
             machine.apply(&entry);
         }
         Ok(Engine {

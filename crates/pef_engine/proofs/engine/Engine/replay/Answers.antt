@@ -1,4 +1,5 @@
 use Rattle.std.proofs.Common.{rules, ◌≡◌, inr, ⊎_elim, ℕ, List, map, Some, Ok, true, false, IsTrue, refl, sym, ◌∙◌, subst}
+use Rattle.std.proofs.lemmas.Result.{err_from_is_err_and}
 use Rattle.std.proofs.lemmas.List.{append-nil}
 use Rattle.pef_engine.specs.declared.entry.Entry.{Entry}
 use Rattle.pef_engine.specs.declared.faults.EngineFault.TheVariants.{NotFormatted, Corrupt, Memory}
@@ -28,8 +29,8 @@ pub returns-then-not-allows-clause-moments : goal.returns-then-not-allows-clause
 returns-then-not-allows-clause-moments g c = λ tells. inr (syncs_reads (g.B.Board.view c.args.board.now) (g.B.Board.view c.entries.board) (g.B.Board.view c.entry.new.board) (LeavesAsRead (g.B.Board.view c.args.board.now))
     (g.met.B.Board.sound c.entries.board) (g.met.B.Board.sound c.entry.new.board) c.entry.ensures.file tells (c.entries.invariant.moments (c.entry.ensures.file.call.run.tells tells)))
 
-pub returns-in-Err-make_ready-clause-moments : goal.returns-in-Err-make_ready-clause-moments
-returns-in-Err-make_ready-clause-moments g c = λ tells. inr (syncs_reads (g.B.Board.view c.args.board.now) (g.B.Board.view c.entries.board) (g.B.Board.view c.entry.new.board) (LeavesAsRead (g.B.Board.view c.args.board.now))
+pub returns-in_err-make_ready-clause-moments : goal.returns-in_err-make_ready-clause-moments
+returns-in_err-make_ready-clause-moments g c = λ tells. inr (syncs_reads (g.B.Board.view c.args.board.now) (g.B.Board.view c.entries.board) (g.B.Board.view c.entry.new.board) (LeavesAsRead (g.B.Board.view c.args.board.now))
     (g.met.B.Board.sound c.entries.board) (g.met.B.Board.sound c.entry.new.board) c.entry.ensures.file tells (c.entries.invariant.moments (c.entry.ensures.file.call.run.tells tells)))
 
 pub returns-clause-moments : goal.returns-clause-moments
@@ -170,16 +171,17 @@ returns-then-not-allows-clause-corrupt g c = λ tells.
     (breaks rules' view' are now tells_now c.entries.machine c.entries.journal r c.place-gate.result c.place-gate.ensures
     (inr (c.entry.new.out, has, λ e is_e enc allowed. refused e (decodes.found e is_e enc) allowed)))
 
-pub returns-in-Err-make_ready-clause-opened : goal.returns-in-Err-make_ready-clause-opened
-returns-in-Err-make_ready-clause-opened g c = λ tells Z H lawful stands.
+pub returns-in_err-make_ready-clause-opened : goal.returns-in_err-make_ready-clause-opened
+returns-in_err-make_ready-clause-opened g c = λ tells Z H lawful stands.
     let reads = c.entry.ensures.file in
-    open_fails g.M.Machine.rules g.M.Machine.view Z H (g.B.Board.view c.args.board.now) (g.B.Board.view c.entry.new.board) tells
+    let q = err_from_is_err_and c.from_residual.result c.from_residual.ensures.1 in
+    rw (q.1, q.2) (open_fails g.M.Machine.rules g.M.Machine.view Z H (g.B.Board.view c.args.board.now) (g.B.Board.view c.entry.new.board) tells
     (run_compose (g.B.Board.view c.args.board.now) (g.B.Board.view c.entries.board) (g.B.Board.view c.entry.new.board) c.entries.invariant.run reads.call.run)
     (λ t. reads.octets t ∙ c.entries.invariant.octets (reads.call.run.tells t)) stands
-    c.in-Err-make_ready.fault (returns-in-Err-make_ready-clause-moments g c tells) (λ err. c.in-Err-make_ready.ensures.other.1 (cc err)) (λ at err. c.in-Err-make_ready.ensures.other.2 at (cc err))
+    c.in_err-make_ready.field-0.0 (returns-in_err-make_ready-clause-moments g c tells) (λ err. c.in_err-make_ready.ensures.other.1 (cc err)) (λ at err. c.in_err-make_ready.ensures.other.2 at (cc err)))
 
-pub entries-preserved-in-Ok-make_ready : goal.entries-preserved-in-Ok-make_ready
-entries-preserved-in-Ok-make_ready g c = record {
+pub entries-preserved-in_ok-make_ready : goal.entries-preserved-in_ok-make_ready
+entries-preserved-in_ok-make_ready g c = record {
   run = run_compose (g.B.Board.view c.args.board.now) (g.B.Board.view c.entries.board) (g.B.Board.view c.entry.new.board) c.entries.invariant.run c.entry.ensures.file.call.run;
   octets = λ t. c.entry.ensures.file.octets t ∙ c.entries.invariant.octets (c.entry.ensures.file.call.run.tells t);
   moments = λ t. syncs_reads (g.B.Board.view c.args.board.now) (g.B.Board.view c.entries.board) (g.B.Board.view c.entry.new.board) (LeavesAsRead (g.B.Board.view c.args.board.now))

@@ -7,8 +7,8 @@ use Rattle.pef_engine.proofs.Moments.{take_any}
 use Rattle.pef_engine.proofs.Stored.{images_stand, lawful-append, nothing_moments}
 use Rattle.pef_engine.proofs.engine.Engine.take.Goals as goal
 
-pub returns-in-Err-clause-any_moment : goal.returns-in-Err-clause-any_moment
-returns-in-Err-clause-any_moment g c = λ tells Z H holds.
+pub returns-in_err-make_ready-clause-any_moment : goal.returns-in_err-make_ready-clause-any_moment
+returns-in_err-make_ready-clause-any_moment g c = λ tells Z H holds.
     nothing_moments g.M.Machine.rules Z H (g.B.Board.view c.args.board.now) (items_of c.args.entry.now) (g.met.B.Board.sound c.args.board.now) tells
     (images_stand _ _ _ (g.B.Board.view c.args.board.now) c.args.self.now.journal holds.stored)
 
@@ -17,8 +17,8 @@ returns-then-not-room-clause-any_moment g c = λ tells Z H holds.
     nothing_moments g.M.Machine.rules Z H (g.B.Board.view c.args.board.now) (items_of c.args.entry.now) (g.met.B.Board.sound c.args.board.now) tells
     (images_stand _ _ _ (g.B.Board.view c.args.board.now) c.args.self.now.journal holds.stored)
 
-pub returns-in-Err-append-clause-any_moment : goal.returns-in-Err-append-clause-any_moment
-returns-in-Err-append-clause-any_moment g c = λ tells Z H holds.
+pub returns-in-Err-clause-any_moment : goal.returns-in-Err-clause-any_moment
+returns-in-Err-clause-any_moment g c = λ tells Z H holds.
     let rules = g.M.Machine.rules in
     let v = g.B.Board.view c.args.board.now in
     let x = g.B.Board.view c.append.new.board in
@@ -42,7 +42,7 @@ returns-clause-taken g c = λ tells Z H holds.
     let rules = g.M.Machine.rules in
     let e = c.args.entry.now in
     let allowed = ((g.met.M.Machine.agrees c.args.self.now.machine).allowed Z H e holds.lawful holds.shows).0 c.requires.allowed in
-    let added = c.in-Ok-append.ensures.added tells rules.kind Z (map rules.encode H) holds.stored in
+    let added = c.in-Ok.ensures.added tells rules.kind Z (map rules.encode H) holds.stored in
     let stored = subst (λ (l : List (List ℕ)). IsAtEnd rules.kind Z l (g.B.Board.view c.append.new.board) c.append.new.self)
     (ap (λ p. map rules.encode H ++ p ∷ []) c.encode_entry-payload.ensures ∙ sym (map-append rules.encode H (e ∷ []))) added in
     record {
