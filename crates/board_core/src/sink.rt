@@ -3,20 +3,12 @@ ghost use Rattle.std.specs.Prelude.{ℕ, List, Option};
 ghost use Rattle.board_core.specs.Causes.{HasCause};
 ghost use Rattle.board_core.specs.Source.{Appends};
 
-use std::error::Error;
-use std::fmt;
+use thiserror::Error;
 
 /// The sink didn't take all of what was written.
-#[derive(Clone, Copy, Debug, PartialEq, Eq)]
+#[derive(Clone, Copy, Debug, PartialEq, Eq, Error)]
+#[error("the sink could not be written")]
 pub struct SinkFailed;
-
-impl fmt::Display for SinkFailed {
-    fn fmt<W: fmt::Write>(&self, f: &mut fmt::Formatter<W>) -> fmt::Result {
-        f.write_str("the sink could not be written")
-    }
-}
-
-impl Error for SinkFailed {}
 
 /// What is written, from its beginning on.
 pub trait Sink {

@@ -3,6 +3,7 @@ use crate::form::Form;
 use crate::program::top;
 use crate::words::paths;
 use board_core::{MemBoard, MemSource};
+use read_ahead::ReadAhead;
 use real_devices::{FileBoard, FileSource, StdSink};
 use std::alloc::AllocError;
 use std::io::ErrorKind;
@@ -61,9 +62,11 @@ fn call(rt: &HostRuntime, words: &[String]) -> Result<u8, NoStart> {
     // this one first, so that no state file is made where it is missing
     let mut source = FileSource::open(rt, words[paths.second].as_str())?;
     let state = words[paths.state].as_str();
-    let mut board = match paths.form {
+    let file = match paths.form {
         Form::Init => FileBoard::create(rt, alloc, state)?,
         Form::Run => FileBoard::open(rt, alloc, state)?,
     };
+    // a journal is read entry by entry, and each entry is short
+    let mut board = ReadAhead::new(alloc, file)?;
     Ok(top(alloc, words, &mut board, &mut source, &mut out))
 }

@@ -1,5 +1,5 @@
 -- What is stored stays so while a step is issued.
-use Rattle.std.proofs.Common.{◌≡◌, inl, ℕ, List, [], ◌∷◌, ◌++◌, length, IsTrue, sym, ◌∙◌, ap, subst, arith, append_assoc}
+use Rattle.std.proofs.Common.{◌≡◌, inl, ℕ, List, [], ◌∷◌, ◌++◌, IsTrue, sym, ◌∙◌, subst, arith, append_assoc}
 use Rattle.std.proofs.lemmas.List.{append-nil}
 use Rattle.board_core.specs.Board.{BoardView, IsSound, LeavesOnly}
 use Rattle.pef_engine.specs.declared.entry.Entry.{Entry}
@@ -17,7 +17,6 @@ at_end_along kind Z es v w journal octets images old = record {
     rest = old.at.rest;
     file = subst (λ f. image.HasHeader kind Z (image.blocks es ++ old.at.rest) f) (sym octets) old.at.file;
     place = old.at.place;
-    file_length = old.at.file_length ∙ ap length (sym octets);
     left = old.at.left;
     stands = subst (λ f. image.Stands kind Z (es ++ []) f) (sym octets) old.at.stands;
     lasting = λ c now. old.at.lasting c (images c now) ∙ sym octets;

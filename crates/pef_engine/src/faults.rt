@@ -3,28 +3,36 @@ ghost use Rattle.std.specs.Prelude.{◌≡◌, ◌↔◌};
 
 use pef_journal::JournalFault;
 use std::alloc::AllocError;
+use thiserror::Error;
 
 /// Why a machine isn't ready for an item.
-#[derive(Clone, Copy, Debug, PartialEq, Eq)]
+#[derive(Clone, Copy, Debug, PartialEq, Eq, Error)]
 pub enum MachineFault {
     /// There is no memory for it.
+    #[error("there is no memory for the item")]
     Memory(AllocError),
     /// The machine's own limit stands against it.
+    #[error("the machine has no room for the item")]
     Full,
 }
 
 /// Why an engine isn't opened, or an entry isn't stored.
-#[derive(Clone, Copy, Debug, PartialEq, Eq)]
+#[derive(Clone, Copy, Debug, PartialEq, Eq, Error)]
 pub enum EngineFault {
     /// The octets aren't those of a file of the machine's kind.
+    #[error("the file is not formatted for this kind")]
     NotFormatted,
     /// The gate at this place or the entry behind it doesn't lie within the file, or the entry is none that may come there.
+    #[error("the file is corrupt at octet {at}")]
     Corrupt { at: u64 },
     /// The disk failed. The engine isn't live any more: the file has the entry in flight or not, and is to be opened again.
+    #[error("the disk failed")]
     DiskFault,
     /// The file or the machine has no room for the entry. Nothing was stored.
+    #[error("there is no room for the entry")]
     Full,
     /// The machine found no memory to get ready. Nothing was stored.
+    #[error("there is no memory for the entry")]
     Memory(AllocError),
 }
 

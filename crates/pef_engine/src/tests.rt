@@ -192,3 +192,38 @@ fn an_entry_that_may_not_come_is_corrupt(rt: HostRuntime) -> Result<(), Fail> {
     }
     Ok(())
 }
+
+#[test]
+fn a_fault_says_what_is_wrong(rt: HostRuntime) -> Result<(), Fail> {
+    let alloc = rt.alloc();
+    let cases = [
+        (
+            EngineFault::NotFormatted,
+            "the file is not formatted for this kind",
+        ),
+        (
+            EngineFault::Corrupt { at: 10 },
+            "the file is corrupt at octet 10",
+        ),
+        (EngineFault::DiskFault, "the disk failed"),
+        (EngineFault::Full, "there is no room for the entry"),
+        (
+            EngineFault::Memory(AllocError),
+            "there is no memory for the entry",
+        ),
+    ];
+    for (fault, text) in cases {
+        assert_eq!(rt; format!(in alloc; "{fault}")?.as_str(), text);
+    }
+    let full = MachineFault::Full;
+    assert_eq!(rt;
+        format!(in alloc; "{full}")?.as_str(),
+        "the machine has no room for the item"
+    );
+    let memory = MachineFault::Memory(AllocError);
+    assert_eq!(rt;
+        format!(in alloc; "{memory}")?.as_str(),
+        "there is no memory for the item"
+    );
+    Ok(())
+}

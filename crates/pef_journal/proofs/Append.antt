@@ -1,13 +1,13 @@
 -- What a crash leaves while an entry is added.
-use Rattle.std.proofs.Common.{◌≡◌, ◌≢◌, inl, inr, ℕ, ◌+◌, ◌/◌, ◌%◌, ◌≤◌, max, List, [], ◌∷◌, ◌++◌, length, get_or, take, drop, IsTrue, refl, sym, ◌∙◌, ap, subst, arith, append_assoc, length-append, take-append-drop, ◌-◌}
+use Rattle.std.proofs.Common.{◌≡◌, ◌≢◌, inl, inr, ℕ, ◌+◌, ◌/◌, ◌%◌, ◌≤◌, List, [], ◌∷◌, ◌++◌, length, get_or, take, drop, IsTrue, refl, sym, ◌∙◌, ap, subst, arith, append_assoc, length-append, take-append-drop}
 use Rattle.std.proofs.lemmas.Bool.{cases_eq}
-use Rattle.std.proofs.lemmas.List.{take_at, drop_at, drop_more, append-nil, length-drop, length-take-le, take-append-le}
-use Rattle.board_core.specs.Board.{BoardView, CrashState, LeftNow, IsSound, IsFileCall, LeavesOnly, SameSteps, Torn, Follows, Holds, Only, steps_of, tolds_of}
+use Rattle.std.proofs.lemmas.List.{take_at, drop_at, drop_more, append-nil, length-take-le, take-append-le}
+use Rattle.board_core.specs.Board.{BoardView, CrashState, IsSound, IsFileRun, LeavesOnly, SameSteps, Torn, Holds, Only}
 use Rattle.pef_journal.specs.Image.{header, blocks, frame, IsPayload, AllPayloads, HasEntries, Stands}
-use Rattle.pef_journal.specs.Journal.{IsAtEnd, StandsForEither}
+use Rattle.pef_journal.specs.Journal.{IsAtEnd, LeavesTorn, StandsForEither}
 use Rattle.pef_journal.specs.declared.journal.Journal.{Journal}
 use Rattle.pef_journal.proofs.Entries.{payloads_of, behind, blocks-append, some_octet}
-use Rattle.pef_journal.proofs.Moments.{started, goes_on}
+use Rattle.pef_journal.proofs.Moments.{started, leaves_map, leaves_compose, steps_same, steps_along}
 
 -- what the two writes make of the file
 pub written_whole : (file mid new fr : List ℕ) (place : ℕ) → place + 1 ≤ length file → Holds file (place + 1) fr mid → Holds mid place (165 ∷ []) new → Holds file place (165 ∷ fr) new
@@ -115,87 +115,59 @@ module _ (kind : ℕ) (Z : List ℕ) (E : List (List ℕ)) (v : BoardView) (jour
     abbrev Leaves : CrashState → Type 0
     Leaves left = SameSteps v left × StandsForEither kind Z E p left.image
 
-    steps_same : (w : BoardView) (left : CrashState) → w.sent ≡ v.sent → LeftNow w left → SameSteps v left
-    steps_same w left sent now = record { issued = now.issued ∙ ap steps_of sent; told = now.told ∙ ap tolds_of sent }
-
     pub at_start : IsSound v → IsTrue v.tells → LeavesOnly v v Leaves
     at_start sound tells = started v Leaves sound tells (λ left now. (
-      steps_same v left refl now,
+      steps_same v v left refl now,
       inl (subst (Stands kind Z E) (sym (at.at.lasting left.image now.image)) (subst (λ l. Stands kind Z l v.octets) (append-nil E) at.at.stands)),
     ))
 
-    module _ (w : BoardView) (so_far : LeavesOnly v v Leaves) (call : IsFileCall v w) (tells : IsTrue w.tells) (images : Follows (Torn (journal.place + 1) (length (frame p))) v.images w.images) where
-      first : (c : List ℕ) → w.images c → Stands kind Z E c
-      first c now =
-          let from = images c now in
-          torn_behind (length (frame p)) c (subst (λ f. Torn (journal.place + 1) (length (frame p)) f c) (at.at.lasting from.0 from.1) from.2)
+    module _ (w : BoardView) (octets : List ℕ) (torn_w : LeavesOnly v w (LeavesTorn (journal.place + 1) (length octets) v)) where
+      pub after_body : LeavesOnly v w Leaves
+      after_body = leaves_map v w (LeavesTorn (journal.place + 1) (length octets) v) Leaves first torn_w
+        where
+          first : (left : CrashState) → LeavesTorn (journal.place + 1) (length octets) v left → Leaves left
+          first left is = (is.3, inl (torn_behind (length octets) left.image (subst (λ f. Torn (journal.place + 1) (length octets) f left.image) (at.at.lasting is.0 is.1) is.2)))
 
-      pub after_first : LeavesOnly v w Leaves
-      after_first = goes_on v v w Leaves so_far call tells (λ left now. (steps_same w left (call.run.sent tells) now, inl (first left.image now.image)))
+      module _ (is_frame : octets ≡ frame p) (run : IsFileRun v w) (tells : IsTrue w.tells) (holds : Holds v.octets (journal.place + 1) octets w.octets) (only : Only w.octets w.images) where
+        staged_w : w.octets ≡ staged at.at.left.0 old_tail
+        staged_w = written_behind w.octets (subst (λ l. Holds v.octets (journal.place + 1) l w.octets) is_frame holds)
 
-      module _ (x : BoardView) (call_x : IsFileCall w x) (tells_x : IsTrue x.tells) (fewer : (c : List ℕ) → x.images c → w.images c) where
-        sent_x : x.sent ≡ v.sent
-        sent_x = call_x.run.sent tells_x ∙ call.run.sent tells
+        pub after_gate : (x : BoardView) → LeavesOnly w x (LeavesTorn journal.place 1 w) → LeavesOnly v x Leaves
+        after_gate x torn_x = leaves_compose v w x Leaves (LeavesTorn journal.place 1 w) after_body torn_x second
+          where
+            second : (left : CrashState) → LeavesTorn journal.place 1 w left → Leaves left
+            second left is = (
+              steps_along v w left (run.sent tells) is.3,
+              torn_gate at.at.left.0 old_tail left.image (subst (λ f. Torn journal.place 1 f left.image) (only is.0 is.1 ∙ staged_w) is.2),
+            )
 
-        pub after_sync : LeavesOnly v x Leaves
-        after_sync = goes_on v w x Leaves after_first call_x tells_x (λ left now. (steps_same x left sent_x now, inl (first left.image (fewer left.image now.image))))
+        -- and then it stands behind the new entry
+        pub at_new_end : (z : BoardView) (new : Journal) → Holds w.octets journal.place (165 ∷ []) z.octets → Only z.octets z.images → new.place ≡ journal.place + (3 + length p) → IsTrue new.ended → IsAtEnd kind Z (E ++ p ∷ []) z new
+        at_new_end z new holds_z only_z place ended = record {
+          at = record {
+            rest = 0 ∷ old_tail;
+            file = (at.at.file.0, whole, λ none. let size : length (blocks (E ++ p ∷ []) ++ 0 ∷ old_tail) ≡ 0 = ap length none in absurd (omega (arith, size, length-append (blocks (E ++ p ∷ [])) (0 ∷ old_tail))));
+            place = place_new;
+            left = (0, old_tail, refl, λ clash. absurd (cc clash));
+            stands = subst (λ l. Stands kind Z l z.octets) (sym (append-nil (E ++ p ∷ []))) (subst (Stands kind Z (E ++ p ∷ [])) (sym is) (stands_staged old_tail));
+            lasting = only_z;
+          };
+          ended = ended;
+        }
+          where
+            is : z.octets ≡ staged 165 old_tail
+            is = written_gate at.at.left.0 old_tail z.octets (subst (λ f. Holds f journal.place (165 ∷ []) z.octets) staged_w holds_z)
 
-        module _ (y : BoardView) (call_y : IsFileCall x y) (tells_y : IsTrue y.tells) (holds : Holds v.octets (journal.place + 1) (frame p) w.octets) (octets_x : x.octets ≡ w.octets) (only_x : Only x.octets x.images)
-            (images_y : Follows (Torn journal.place 1) x.images y.images) where
-          staged_x : x.octets ≡ staged at.at.left.0 old_tail
-          staged_x = octets_x ∙ written_behind w.octets holds
+            blocks_p : blocks (E ++ p ∷ []) ≡ blocks E ++ 165 ∷ (length p % 256) ∷ (length p / 256) ∷ (p ++ [])
+            blocks_p = blocks-append E (p ∷ [])
 
-          second : (c : List ℕ) → y.images c → StandsForEither kind Z E p c
-          second c now =
-              let from = images_y c now in
-              torn_gate at.at.left.0 old_tail c (subst (λ f. Torn journal.place 1 f c) (only_x from.0 from.1 ∙ staged_x) from.2)
+            whole : z.octets ≡ header kind Z ++ (blocks (E ++ p ∷ []) ++ 0 ∷ old_tail)
+            whole =
+                is ∙ append_assoc (header kind Z) (blocks E) (165 ∷ (length p % 256) ∷ (length p / 256) ∷ (p ++ 0 ∷ old_tail))
+                ∙ ap (λ l. header kind Z ++ l) (ap (λ l. blocks E ++ 165 ∷ (length p % 256) ∷ (length p / 256) ∷ (l ++ 0 ∷ old_tail)) (sym (append-nil p))
+                ∙ ap (λ l. blocks E ++ 165 ∷ (length p % 256) ∷ (length p / 256) ∷ l) (refl)
+                ∙ sym (append_assoc (blocks E) (165 ∷ (length p % 256) ∷ (length p / 256) ∷ (p ++ [])) (0 ∷ old_tail))
+                ∙ ap (λ l. l ++ 0 ∷ old_tail) (sym blocks_p))
 
-          sent_y : y.sent ≡ v.sent
-          sent_y = call_y.run.sent tells_y ∙ sent_x
-
-          pub after_second : LeavesOnly v y Leaves
-          after_second = goes_on v x y Leaves after_sync call_y tells_y (λ left now. (steps_same y left sent_y now, second left.image now.image))
-
-          pub after_last : (z : BoardView) → IsFileCall y z → IsTrue z.tells → ((c : List ℕ) → z.images c → y.images c) → LeavesOnly v z Leaves
-          after_last z call_z tells_z fewer_z = goes_on v y z Leaves after_second call_z tells_z (λ left now. (steps_same z left (call_z.run.sent tells_z ∙ sent_y) now, second left.image (fewer_z left.image now.image)))
-
-          -- and then it stands behind the new entry
-          pub at_new_end : (z : BoardView) (new : Journal) → Holds x.octets journal.place (165 ∷ []) y.octets → z.octets ≡ y.octets → Only z.octets z.images → new.place ≡ journal.place + (3 + length p) → new.file_length ≡ max journal.file_length (journal.place + (3 + length p) + 1) → IsTrue new.ended → IsAtEnd kind Z (E ++ p ∷ []) z new
-          at_new_end z new holds_y octets_z only_z place size ended = record {
-            at = record {
-              rest = 0 ∷ old_tail;
-              file = (at.at.file.0, whole, λ none. let size : length (blocks (E ++ p ∷ []) ++ 0 ∷ old_tail) ≡ 0 = ap length none in absurd (omega (arith, size, length-append (blocks (E ++ p ∷ [])) (0 ∷ old_tail))));
-              place = place_new;
-              file_length = size_new;
-              left = (0, old_tail, refl, λ clash. absurd (cc clash));
-              stands = subst (λ l. Stands kind Z l z.octets) (sym (append-nil (E ++ p ∷ []))) (subst (Stands kind Z (E ++ p ∷ [])) (sym is) (stands_staged old_tail));
-              lasting = only_z;
-            };
-            ended = ended;
-          }
-            where
-              is : z.octets ≡ staged 165 old_tail
-              is = octets_z ∙ written_gate at.at.left.0 old_tail y.octets (subst (λ f. Holds f journal.place (165 ∷ []) y.octets) staged_x holds_y)
-
-              blocks_p : blocks (E ++ p ∷ []) ≡ blocks E ++ 165 ∷ (length p % 256) ∷ (length p / 256) ∷ (p ++ [])
-              blocks_p = blocks-append E (p ∷ [])
-
-              whole : z.octets ≡ header kind Z ++ (blocks (E ++ p ∷ []) ++ 0 ∷ old_tail)
-              whole =
-                  is ∙ append_assoc (header kind Z) (blocks E) (165 ∷ (length p % 256) ∷ (length p / 256) ∷ (p ++ 0 ∷ old_tail))
-                  ∙ ap (λ l. header kind Z ++ l) (ap (λ l. blocks E ++ 165 ∷ (length p % 256) ∷ (length p / 256) ∷ (l ++ 0 ∷ old_tail)) (sym (append-nil p))
-                  ∙ ap (λ l. blocks E ++ 165 ∷ (length p % 256) ∷ (length p / 256) ∷ l) (refl)
-                  ∙ sym (append_assoc (blocks E) (165 ∷ (length p % 256) ∷ (length p / 256) ∷ (p ++ [])) (0 ∷ old_tail))
-                  ∙ ap (λ l. l ++ 0 ∷ old_tail) (sym blocks_p))
-
-              place_new : new.place ≡ length (header kind Z ++ blocks (E ++ p ∷ []))
-              place_new = omega (arith, place, place_is, length-append (header kind Z) (blocks (E ++ p ∷ [])), ap length blocks_p, length-append (header kind Z) (blocks E), length-append (blocks E) (165 ∷ (length p % 256) ∷ (length p / 256) ∷ (p ++ [])), length-append p [])
-
-              size_old : journal.file_length ≡ length front + (1 + length at.at.left.1)
-              size_old = omega (arith, at.at.file_length, ap length file_is, length-append front (at.at.left.0 ∷ at.at.left.1))
-
-              tail_size : length old_tail ≡ length v.octets - (journal.place + 1 + length (frame p))
-              tail_size = length-drop (journal.place + 1 + length (frame p)) v.octets
-
-              size_new : new.file_length ≡ length z.octets
-              size_new = omega (arith, size, size_old, at.at.file_length, place_is, tail_size, length-append p (0 ∷ []), ap length is, length-append front (165 ∷ (length p % 256) ∷ (length p / 256) ∷ (p ++ 0 ∷ old_tail)), length-append p (0 ∷ old_tail))
+            place_new : new.place ≡ length (header kind Z ++ blocks (E ++ p ∷ []))
+            place_new = omega (arith, place, place_is, length-append (header kind Z) (blocks (E ++ p ∷ [])), ap length blocks_p, length-append (header kind Z) (blocks E), length-append (blocks E) (165 ∷ (length p % 256) ∷ (length p / 256) ∷ (p ++ [])), length-append p [])

@@ -1,7 +1,7 @@
 -- What a crash leaves while calls follow one another.
-use Rattle.std.proofs.Common.{◌≡◌, ◌↔◌, inl, inr, ⊎_elim, ℕ, List, IsTrue, sym, ◌∙◌, ap, arith}
-use Rattle.pef_journal.specs.Journal.{LeavesAsRead}
-use Rattle.board_core.specs.Board.{BoardView, CrashState, LeftNow, IsSound, IsFileRun, IsFileCall, Reads, LeavesOnly, SyncsFirst, NeverSynced, steps_of, tolds_of, Only}
+use Rattle.std.proofs.Common.{◌≡◌, ◌↔◌, inl, inr, ⊎_elim, ℕ, List, IsTrue, refl, sym, ◌∙◌, ap, arith}
+use Rattle.pef_journal.specs.Journal.{LeavesAsRead, LeavesTorn}
+use Rattle.board_core.specs.Board.{BoardView, CrashState, LeftNow, IsSound, IsFileRun, IsFileCall, Reads, LeavesOnly, SyncsFirst, NeverSynced, SameSteps, Torn, Follows, steps_of, tolds_of, Only}
 
 -- before the first call
 pub started : (v : BoardView) (P : CrashState → Type 0) → IsSound v → IsTrue v.tells → ((left : CrashState) → LeftNow v left → P left) → LeavesOnly v v P
@@ -108,3 +108,28 @@ first_sync v w sound_v sound_w call tells octets lasting = record {
       let now = sound_w.only_now tells left since in
       (record { issued = now.issued ∙ ap steps_of (call.run.sent tells); told = now.told ∙ ap tolds_of (call.run.sent tells) }, lasting left.image now.image ∙ octets);
 }
+
+torn_self : (place n : ℕ) (c : List ℕ) → Torn place n c c
+torn_self place n c = record { before = refl; after = refl; no_shorter = omega arith; no_longer = omega arith }
+
+pub steps_same : (v w : BoardView) (left : CrashState) → w.sent ≡ v.sent → LeftNow w left → SameSteps v left
+steps_same v w left sent now = record { issued = now.issued ∙ ap steps_of sent; told = now.told ∙ ap tolds_of sent }
+
+-- a write, done or failed
+pub write_leaves : (v w : BoardView) (place n : ℕ) → IsSound v → IsFileCall v w → IsTrue w.tells → Follows (Torn place n) v.images w.images → LeavesOnly v w (LeavesTorn place n v)
+write_leaves v w place n sound call tells images =
+    goes_on v v w (LeavesTorn place n v)
+    (started v (LeavesTorn place n v) sound (call.run.tells tells) (λ left now. (left.image, now.image, torn_self place n left.image, steps_same v v left refl now)))
+    call tells (λ left now. let from = images left.image now.image in (from.0, from.1, from.2, steps_same v w left (call.run.sent tells) now))
+
+-- and the sync behind it
+pub sync_leaves : (v w x : BoardView) (place n : ℕ) → IsSound v → IsFileCall v w → IsFileCall w x → IsTrue x.tells → (IsTrue w.tells → Follows (Torn place n) v.images w.images) → ((c : List ℕ) → x.images c → w.images c)
+    → LeavesOnly v x (LeavesTorn place n v)
+sync_leaves v w x place n sound call_w call_x tells images fewer =
+    let tells_w = call_x.run.tells tells in
+    goes_on v w x (LeavesTorn place n v) (write_leaves v w place n sound call_w tells_w (images tells_w)) call_x tells
+    (λ left now. let from = images tells_w left.image (fewer left.image now.image) in (from.0, from.1, from.2, steps_same v x left (call_x.run.sent tells ∙ call_w.run.sent tells_w) now))
+
+-- the steps of a run of calls of the file stay
+pub steps_along : (v w : BoardView) (left : CrashState) → w.sent ≡ v.sent → SameSteps w left → SameSteps v left
+steps_along v w left sent same = record { issued = same.issued ∙ ap steps_of sent; told = same.told ∙ ap tolds_of sent }

@@ -90,7 +90,6 @@ module _ (kind : ℕ) (Z : List ℕ) (before : List (List ℕ)) (v : BoardView) 
     file = at.file;
     payloads = all_front before after (payloads_of (before ++ after) at.stands.0 at.stands.2);
     place = at.place;
-    file_length = at.file_length;
     lasting = at.lasting;
   }
 
@@ -100,7 +99,6 @@ module _ (kind : ℕ) (Z : List ℕ) (before : List (List ℕ)) (v : BoardView) 
     rest = r.rest;
     file = r.file;
     place = r.place;
-    file_length = r.file_length;
     left = left;
     stands = (blocks before ++ r.rest, r.file, behind before after r.rest r.payloads left);
     lasting = r.lasting;
@@ -140,22 +138,21 @@ module _ (kind : ℕ) (Z : List ℕ) (before : List (List ℕ)) (v : BoardView) 
 -- ---- one call of `entry`
 
 -- a call that reads leaves what was read
-pub still_read : (kind : ℕ) (Z : List ℕ) (before : List (List ℕ)) (v w : BoardView) (journal new : Journal) → Reads v w → IsTrue w.tells → new.place ≡ journal.place → new.file_length ≡ journal.file_length → HasRead kind Z before v journal → HasRead kind Z before w new
-still_read kind Z before v w journal new reads tells place file_length r = record {
+pub still_read : (kind : ℕ) (Z : List ℕ) (before : List (List ℕ)) (v w : BoardView) (journal new : Journal) → Reads v w → IsTrue w.tells → new.place ≡ journal.place → HasRead kind Z before v journal → HasRead kind Z before w new
+still_read kind Z before v w journal new reads tells place r = record {
   rest = r.rest;
   file = (r.file.0, reads.octets tells ∙ r.file.1, r.file.2);
   payloads = r.payloads;
   place = place ∙ r.place;
-  file_length = file_length ∙ r.file_length ∙ ap length (sym (reads.octets tells));
   lasting = λ c now. r.lasting c ((reads.images tells c).0 now) ∙ sym (reads.octets tells);
 }
 
-module _ (kind : ℕ) (Z : List ℕ) (before : List (List ℕ)) (v w : BoardView) (journal new : Journal) (reads : Reads v w) (tells : IsTrue w.tells) (file_length : new.file_length ≡ journal.file_length) where
+module _ (kind : ℕ) (Z : List ℕ) (before : List (List ℕ)) (v w : BoardView) (journal new : Journal) (reads : Reads v w) (tells : IsTrue w.tells) where
   -- at a closed gate
   pub read_closed : HasRead kind Z before v journal → IsShutAt v.octets journal.place → new.place ≡ journal.place → HasEnded new → IsAtEnd kind Z before w new
   unfolding still_read
   read_closed r shut place ended = record {
-    at = stands_before kind Z before w new [] (still_read kind Z before v w journal new reads tells place file_length r) (subst (HasEntries []) (rest_is kind Z before v journal r) (shut_ends v.octets journal.place shut));
+    at = stands_before kind Z before w new [] (still_read kind Z before v w journal new reads tells place r) (subst (HasEntries []) (rest_is kind Z before v journal r) (shut_ends v.octets journal.place shut));
     ended = ended;
   }
 
@@ -185,7 +182,6 @@ module _ (kind : ℕ) (Z : List ℕ) (before : List (List ℕ)) (v w : BoardView
       );
       payloads = all_append before (out ∷ []) r.payloads (payload_out v.octets journal.place n out within opens out_is, tt);
       place = place_new;
-      file_length = file_length ∙ r.file_length ∙ ap length (sym (reads.octets tells));
       lasting = λ c now. r.lasting c ((reads.images tells c).0 now) ∙ sym (reads.octets tells);
     }
       where

@@ -14,8 +14,8 @@ GateIs file gate Closed = IsShutAt file gate
 GateIs file gate Corrupt = IsCorruptAt file gate
 GateIs file gate (Open n) = LiesWithin gate n (length file) × (file ≡ take gate file ++ 165 ∷ (n % 256) ∷ (n / 256) ∷ drop (gate + 3) file)
 
--- and of the length of the file, told or not
-abbrev pub GateWithin : ℕ → ℕ → Gate → Type 0
-GateWithin gate end Closed = gate < end
-GateWithin gate end Corrupt = ⊤
-GateWithin gate end (Open n) = LiesWithin gate n end
+-- whatever the board tells, an entry behind an open gate ends before this place
+abbrev pub EndsBelow : ℕ → ℕ → Gate → Type 0
+EndsBelow end gate Closed = ⊤
+EndsBelow end gate Corrupt = ⊤
+EndsBelow end gate (Open n) = LiesWithin gate n end

@@ -1,6 +1,6 @@
 -- Where a journal stands in its file.
 use Rattle.std.specs.Prelude.{◌≡◌, ◌⊎◌, ℕ, ◌+◌, ◌≤◌, Bool, true, false, IsTrue, List, [], ◌∷◌, ◌++◌, length, Result, Ok, Err, ⊤}
-use Rattle.board_core.specs.Board.{BoardView, CrashState, Only, SameSteps}
+use Rattle.board_core.specs.Board.{BoardView, CrashState, Only, SameSteps, Torn}
 use Rattle.pef_journal.specs.Image.{header, blocks, HasHeader, HasEntries, AllPayloads, Stands, IsShutAt, IsCorruptAt, HasEntryAt}
 use Rattle.pef_journal.specs.declared.fault.JournalFault.{JournalFault}
 use Rattle.pef_journal.specs.declared.fault.JournalFault.TheVariants.{NotFormatted, Corrupt, DiskFault, Full}
@@ -13,13 +13,13 @@ HasEnded journal = IsTrue journal.ended
 abbrev pub HasRoom : Journal → ℕ → Type 0
 HasRoom journal n = journal.place + 4 + n ≤ 16777216
 
--- the journal knows the length of the board's file, where that is told
-abbrev pub KnowsLength : BoardView → Journal → Type 0
-KnowsLength v journal = IsTrue v.tells → journal.file_length ≡ length v.octets
-
 -- a crash leaves the file as a read gave it then, and no further step
 abbrev pub LeavesAsRead : BoardView → CrashState → Type 0
 LeavesAsRead v left = SameSteps v left × (left.image ≡ v.octets)
+
+-- a crash leaves an image of then, other at most in a write of n octets at this place, and no further step
+abbrev pub LeavesTorn : ℕ → ℕ → BoardView → CrashState → Type 0
+LeavesTorn place n v left = (image : List ℕ) × v.images image × Torn place n image left.image × SameSteps v left
 
 -- it has read these entries, and stands behind the last of them, whatever comes next; all of it is on the disk
 pub record HasRead (kind : ℕ) (settings : List ℕ) (before : List (List ℕ)) (v : BoardView) (journal : Journal) : Type 0 where
@@ -27,7 +27,6 @@ pub record HasRead (kind : ℕ) (settings : List ℕ) (before : List (List ℕ))
   pub file : HasHeader kind settings (blocks before ++ rest) v.octets
   pub payloads : AllPayloads before
   pub place : journal.place ≡ length (header kind settings ++ blocks before)
-  pub file_length : journal.file_length ≡ length v.octets
   pub lasting : Only v.octets v.images
 
 -- it stands behind these entries and before those, and all of it is on the disk
@@ -35,7 +34,6 @@ pub record IsAt (kind : ℕ) (settings : List ℕ) (before after : List (List �
   pub rest : List ℕ
   pub file : HasHeader kind settings (blocks before ++ rest) v.octets
   pub place : journal.place ≡ length (header kind settings ++ blocks before)
-  pub file_length : journal.file_length ≡ length v.octets
   pub left : HasEntries after rest
   pub stands : Stands kind settings (before ++ after) v.octets
   pub lasting : Only v.octets v.images

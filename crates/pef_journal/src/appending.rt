@@ -3,11 +3,12 @@ ghost use Rattle.std.specs.Prelude.{◌≡◌, ◌⊎◌, ◌↔◌, ◌+◌, �
 ghost use Rattle.board_core.specs.Causes.{Rose};
 ghost use Rattle.board_core.specs.Board.{LeavesOnly, HasRoomFor, Holds, SameSteps, IsFileRun};
 ghost use Rattle.pef_journal.specs.Image.{frame};
-ghost use Rattle.pef_journal.specs.Journal.{IsAtEnd, HasEnded, HasRoom, KnowsLength, StandsForEither};
+ghost use Rattle.pef_journal.specs.Journal.{IsAtEnd, HasEnded, HasRoom, StandsForEither};
 
 use crate::JournalFault;
 use crate::journal::Journal;
 use crate::layout::{OPEN, frame_of};
+use crate::syncing::write_synced;
 use board_core::{Board, Payload};
 
 impl Journal {
@@ -34,7 +35,6 @@ impl Journal {
         ensures disk { IsErrOf result JournalFault.DiskFault → Rose (B.view board.old).disk_faults (B.view board.new).disk_faults }
         ensures other { OnErr result (IsErrOf result JournalFault.Full ⊎ IsErrOf result JournalFault.DiskFault) }
         ensures place { OnOk result (HasRoomFor (B.view board.new) (self.new.place + 1)) }
-        ensures knows { KnowsLength (B.view board.old) self.old → OnOk result (KnowsLength (B.view board.new) self.new) }
         ensures stays { HasEnded self.new }
     {
         payload.fits();
@@ -43,13 +43,10 @@ impl Journal {
             return Err(JournalFault::Full);
         }
         let frame = frame_of(payload);
-        board.write_at(self.place + 1, frame.as_slice())?;
-        // until this sync is done, behind an open gate anything might stand
-        board.sync()?;
-        board.write_at(self.place, &[OPEN])?;
-        board.sync()?;
+        // until this is done, behind an open gate anything might stand
+        write_synced(board, self.place + 1, frame.as_slice())?;
+        write_synced(board, self.place, &[OPEN])?;
         self.place += 3 + length as u64;
-        self.file_length = self.file_length.max(self.place + 1);
         Ok(())
     }
 }

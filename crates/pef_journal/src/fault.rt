@@ -3,17 +3,22 @@ ghost use Rattle.std.specs.Prelude.{◌≡◌};
 ghost use Rattle.pef_journal.specs.declared.fault.JournalFault.TheVariants.{DiskFault};
 
 use board_core::DiskFailed;
+use thiserror::Error;
 
 /// Why a call on a journal failed.
-#[derive(Clone, Copy, Debug, PartialEq, Eq)]
+#[derive(Clone, Copy, Debug, PartialEq, Eq, Error)]
 pub enum JournalFault {
     /// The octets aren't those of a file of this kind.
+    #[error("the file is not formatted for this kind")]
     NotFormatted,
     /// The gate at this place, or the entry behind it, doesn't lie within the file.
+    #[error("the file is corrupt at octet {at}")]
     Corrupt { at: u64 },
     /// The disk failed. The journal must be opened again.
+    #[error("the disk failed")]
     DiskFault,
     /// The file would pass 16,777,216 octets. Nothing has changed.
+    #[error("the file is full")]
     Full,
 }
 

@@ -7,7 +7,7 @@ ghost use Rattle.pef_journal.specs.Image.{header, IsFormatted, Stands, HasSettin
 ghost use Rattle.pef_journal.specs.Journal.{LeavesAsRead};
 
 use crate::layout::{CLOSED, OPEN, SETTINGS, head_of, settings_length};
-use crate::syncing::synced_length;
+use crate::syncing::{synced_length, write_synced};
 use board_core::{Board, Bytes, DiskFailed};
 
 /// Makes a file that isn't formatted stand for no entries, with these settings, which have the kind's length. What lies
@@ -27,11 +27,9 @@ pub fn format<B: Board>(board: &mut B, kind: u8, settings: &[u8]) -> Result<(), 
 {
     clear_mark(board)?;
     let body = body_of(kind, settings);
-    board.write_at(1, body.as_slice())?;
-    // until this sync is done, behind the mark anything might stand
-    board.sync()?;
-    board.write_at(0, &[OPEN])?;
-    board.sync()
+    // until this is done, behind the mark anything might stand
+    write_synced(board, 1, body.as_slice())?;
+    write_synced(board, 0, &[OPEN])
 }
 
 // Takes the mark of a formatted file away, where there is one, so that octet 0 says that the file isn't formatted.
@@ -48,8 +46,7 @@ fn clear_mark<B: Board>(board: &mut B) -> Result<(), DiskFailed>
     if !may_be_marked(board)? {
         return Ok(());
     }
-    board.write_at(0, &[CLOSED])?;
-    board.sync()
+    write_synced(board, 0, &[CLOSED])
 }
 
 // True where the file is empty, or octet 0 is that of a formatted file.

@@ -1,8 +1,8 @@
 //! Reading a gate, and the entry behind it.
-ghost use Rattle.std.specs.Prelude.{◌≡◌, ◌+◌, ◌<◌, ◌≤◌, length, take, drop, IsTrue, IfOk, OnOk, OnErr};
+ghost use Rattle.std.specs.Prelude.{◌≡◌, ◌+◌, ◌^◌, ◌<◌, ◌≤◌, length, take, drop, IsTrue, IfOk, OnOk, OnErr};
 ghost use Rattle.board_core.specs.Causes.{HasCause};
 ghost use Rattle.board_core.specs.Board.{HasRoomFor, Reads};
-ghost use Rattle.pef_journal.specs.Gate.{GateIs, GateWithin};
+ghost use Rattle.pef_journal.specs.Gate.{GateIs, EndsBelow};
 
 use crate::layout::{LONGEST, OPEN};
 use board_core::{Board, DiskFailed, Payload};
@@ -18,14 +18,14 @@ pub enum Gate {
     Open(usize),
 }
 
-/// Reads the gate at a place of a file of this length, with the entry's length behind it.
-pub fn read_gate<B: Board>(board: &mut B, place: u64, file_length: u64) -> Result<Gate, DiskFailed>
-    requires { IsTrue (B.view board.old).tells → file_length ≡ length (B.view board.old).octets }
+/// Reads the gate at a place, with the entry's length behind it: one `len`, and one read where a gate lies there.
+pub fn read_gate<B: Board>(board: &mut B, place: u64) -> Result<Gate, DiskFailed>
     ensures file { Reads (B.view board.old) (B.view board.new) }
     ensures found { IsTrue (B.view board.new).tells → IfOk result (λ gate. GateIs (B.view board.old).octets place gate) }
-    ensures within { IfOk result (λ gate. GateWithin place file_length gate) }
+    ensures ends { IfOk result (λ gate. EndsBelow (2 ^ 64) place gate) }
     ensures cause { HasCause (B.view board.old).disk_faults (B.view board.new).disk_faults result }
 {
+    let file_length = board.len()?;
     if place >= file_length {
         return Ok(Gate::Corrupt);
     }

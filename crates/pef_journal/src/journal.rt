@@ -12,7 +12,6 @@ pub struct Journal {
     pub(crate) place: u64,
     // the gate at that place was found closed
     pub(crate) ended: bool,
-    pub(crate) file_length: u64,
 }
 
 impl Journal {

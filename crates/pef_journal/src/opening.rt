@@ -3,7 +3,7 @@ ghost use Rattle.std.specs.Prelude.{◌≡◌, ◌⊎◌, ◌+◌, ◌≤◌, �
 ghost use Rattle.board_core.specs.Causes.{Rose};
 ghost use Rattle.board_core.specs.Board.{HasRoomFor, IsFileRun, SyncsFirst, NeverSynced};
 ghost use Rattle.pef_journal.specs.Image.{Stands, HasSettingsLength, IsForKind};
-ghost use Rattle.pef_journal.specs.Journal.{IsAt, HasRead, KnowsLength, LeavesAsRead, HasEnded};
+ghost use Rattle.pef_journal.specs.Journal.{IsAt, HasRead, LeavesAsRead, HasEnded};
 
 use crate::JournalFault;
 use crate::journal::Journal;
@@ -39,7 +39,6 @@ impl Journal {
             (IsForKind kind (B.view board.old).octets → ⊥) → IsErr result }
         ensures disk { IsErrOf result JournalFault.DiskFault → Rose (B.view board.old).disk_faults (B.view board.new).disk_faults }
         ensures other { OnErr result (IsErrOf result JournalFault.NotFormatted ⊎ IsErrOf result JournalFault.DiskFault) }
-        ensures fits { IfOk result (λ journal. KnowsLength (B.view board.new) journal) }
         ensures place { IfOk result (λ journal. HasRoomFor (B.view board.new) (journal.place + 1)) }
         ensures begins { IfOk result (λ journal. HasEnded journal → ⊥) }
     {
@@ -57,7 +56,6 @@ impl Journal {
         Ok(Journal {
             place: first_gate,
             ended: false,
-            file_length,
         })
     }
 }

@@ -3,7 +3,7 @@ ghost use Rattle.std.specs.Prelude.{◌≡◌, ◌⊎◌, ◌↔◌, ◌+◌, �
 ghost use Rattle.board_core.specs.Causes.{Rose};
 ghost use Rattle.board_core.specs.Board.{HasRoomFor, Reads};
 ghost use Rattle.pef_journal.specs.Image.{IsCorruptAt};
-ghost use Rattle.pef_journal.specs.Journal.{IsAt, HasRead, HasEnded, GivesEntry, ReadsOn, Finds, KnowsLength};
+ghost use Rattle.pef_journal.specs.Journal.{IsAt, HasRead, HasEnded, GivesEntry, ReadsOn, Finds};
 
 use crate::JournalFault;
 use crate::gate::{Gate, read_gate, read_octets};
@@ -12,13 +12,12 @@ use board_core::{Board, Payload};
 
 impl Journal {
     /// Hands out the next entry in `out`, or answers false at the first closed gate. `Corrupt` where the gate, or the entry
-    /// behind it, doesn't lie within the file, `DiskFault` only at a fault. At most two reads, and no memory is taken.
+    /// behind it, doesn't lie within the file, `DiskFault` only at a fault. One `len`, at most two `read_at`, and no memory is taken.
     pub fn entry<B: Board>(
         &mut self,
         board: &mut B,
         out: &mut Payload,
     ) -> Result<bool, JournalFault>
-        requires { KnowsLength (B.view board.old) self.old }
         ensures file { Reads (B.view board.old) (B.view board.new) }
         ensures entry { IsTrue (B.view board.new).tells → (kind : ℕ) (settings : List ℕ) (before after : List (List ℕ)) →
             IsAt kind settings before after (B.view board.old) self.old →
@@ -38,14 +37,11 @@ impl Journal {
         ensures disk { IsErrOf result JournalFault.DiskFault → Rose (B.view board.old).disk_faults (B.view board.new).disk_faults }
         ensures ended { IfOk result (λ more. (more ≡ false) ↔ HasEnded self.new) }
         ensures grows { IfOk result (λ more. more ≡ true → self.old.place < self.new.place) }
-        ensures within { OnOk result (self.new.place < self.new.file_length) }
         ensures stays { OnErr result (self.new ≡ self.old) }
         ensures last { IfOk result (λ more. more ≡ false → (self.new.place ≡ self.old.place) × (out.new ≡ out.old)) }
-        ensures same { self.new.file_length ≡ self.old.file_length }
-        ensures fits { KnowsLength (B.view board.new) self.new }
         ensures place { OnOk result (HasRoomFor (B.view board.new) (self.new.place + 1)) }
     {
-        let length = match read_gate(board, self.place, self.file_length)? {
+        let length = match read_gate(board, self.place)? {
             Gate::Open(length) => length,
             Gate::Closed => {
                 self.ended = true;

@@ -181,3 +181,24 @@ fn a_crash_in_append_leaves_the_entries_with_the_new_one_or_without(
     }
     Ok(())
 }
+
+#[test]
+fn a_fault_says_what_is_wrong(rt: HostRuntime) -> Result<(), Fail> {
+    let alloc = rt.alloc();
+    let cases = [
+        (
+            JournalFault::NotFormatted,
+            "the file is not formatted for this kind",
+        ),
+        (
+            JournalFault::Corrupt { at: 10 },
+            "the file is corrupt at octet 10",
+        ),
+        (JournalFault::DiskFault, "the disk failed"),
+        (JournalFault::Full, "the file is full"),
+    ];
+    for (fault, text) in cases {
+        assert_eq!(rt; format!(in alloc; "{fault}")?.as_str(), text);
+    }
+    Ok(())
+}

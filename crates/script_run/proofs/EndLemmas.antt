@@ -97,6 +97,7 @@ module _ {I M : Type 0} (rules : Rules I) (view : M → MachineView I) (scripts 
         is_bad = λ not some. absurd (none_some (bad_line (said_of text)) (p.answers not) some);
         other = λ e. absurd (omega (arith, e, is));
         is_other = λ o. absurd (p.refuses o);
+        untouched = λ why. ⊎_elim (λ e. absurd (omega (arith, e, is))) p.headless why;
         formatted = λ e. absurd (omega (arith, e, is));
         full = λ e. absurd (omega (arith, e, is));
         is_full = λ said not' tolds more told lacks. absurd (lacks_none rules Z (says rules scripts) H items old new before mid [] (p.takes tt) (p.idle said tt) tolds more told lacks);
@@ -110,6 +111,7 @@ module _ {I M : Type 0} (rules : Rules I) (view : M → MachineView I) (scripts 
         is_bad = λ not some. absurd (none_some (bad_line (said_of text)) (p.answers not) some);
         other = λ e. absurd (omega (arith, e, is));
         is_other = λ o. absurd (p.refuses o);
+        untouched = λ why. ⊎_elim (λ e. absurd (omega (arith, e, is))) p.headless why;
         formatted = λ e. absurd (omega (arith, e, is));
         full = λ e. absurd (omega (arith, e, is));
         is_full = λ said not' tolds more told lacks. inr (inr (inl is));
@@ -126,6 +128,7 @@ module _ {I M : Type 0} (rules : Rules I) (view : M → MachineView I) (scripts 
         is_bad = λ not some. inl is;
         other = λ e. absurd (omega (arith, e, is));
         is_other = λ o. absurd (p.refuses o);
+        untouched = λ why. ⊎_elim (λ e. absurd (omega (arith, e, is))) p.headless why;
         formatted = λ e. absurd (omega (arith, e, is));
         full = λ e. absurd (omega (arith, e, is));
         is_full = λ said not' tolds more told lacks. absurd (lacks_none rules Z (says rules scripts) H items old new before mid [] (p.takes tt) (p.idle said tt) tolds more told lacks);
@@ -141,6 +144,7 @@ module _ {I M : Type 0} (rules : Rules I) (view : M → MachineView I) (scripts 
         is_bad = λ not some. absurd (not o);
         other = λ e. (o, (id, count, p.refuses o, stops_on rules scripts Z H items old new before mid after w0 w1 w2 (unfinished_line id count) later (p.takes tt) ended.2 (told_or_not before)));
         is_other = λ o. inl is;
+        untouched = λ why. ⊎_elim (λ e. p.refused id count refl) p.headless why;
         formatted = λ e. absurd (omega (arith, e, is));
         full = λ e. absurd (omega (arith, e, is));
         is_full = λ said not' tolds more told lacks. absurd (not' o);
@@ -155,6 +159,7 @@ module _ {I M : Type 0} (rules : Rules I) (view : M → MachineView I) (scripts 
         is_bad = λ not some. inr (inl is);
         other = λ e. absurd (omega (arith, e, is));
         is_other = λ o. inr (inl is);
+        untouched = λ why. ⊎_elim (λ e. absurd (omega (arith, e, is))) p.headless why;
         formatted = λ e. absurd (omega (arith, e, is));
         full = λ e. absurd (omega (arith, e, is));
         is_full = λ said not' tolds more told lacks. inl is;
@@ -169,6 +174,7 @@ module _ {I M : Type 0} (rules : Rules I) (view : M → MachineView I) (scripts 
         is_bad = λ not some. inr (inr (inl is));
         other = λ e. absurd (omega (arith, e, is));
         is_other = λ o. inr (inr (inl is));
+        untouched = λ why. ⊎_elim (λ e. absurd (omega (arith, e, is))) p.headless why;
         formatted = λ e. absurd (omega (arith, e, is));
         full = λ e. absurd (omega (arith, e, is));
         is_full = λ said not' tolds more told lacks. inr (inl is);
@@ -183,6 +189,7 @@ module _ {I M : Type 0} (rules : Rules I) (view : M → MachineView I) (scripts 
         is_bad = λ not some. inr (inr (inr (inl is)));
         other = λ e. absurd (omega (arith, e, is));
         is_other = λ o. absurd (p.refuses o);
+        untouched = λ why. ⊎_elim (λ e. absurd (omega (arith, e, is))) p.headless why;
         formatted = λ e. absurd (omega (arith, e, is));
         full = λ e. absurd (omega (arith, e, is));
         is_full = λ said not' tolds more told lacks. inr (inr (inl is));
@@ -197,6 +204,7 @@ module _ {I M : Type 0} (rules : Rules I) (view : M → MachineView I) (scripts 
         is_bad = λ not some. inr (inr (inr (inr (inl is))));
         other = λ e. absurd (omega (arith, e, is));
         is_other = λ o. inr (inr (inr (inl is)));
+        untouched = λ why. ⊎_elim (λ e. absurd (omega (arith, e, is))) p.headless why;
         formatted = λ e. absurd (omega (arith, e, is));
         full = λ e. p.full refl;
         is_full = λ said not' tolds more told lacks. inr (inr (inr (inl is)));
@@ -211,6 +219,7 @@ module _ {I M : Type 0} (rules : Rules I) (view : M → MachineView I) (scripts 
         is_bad = λ not some. inr (inr (inr (inr (inr (inl is)))));
         other = λ e. absurd (omega (arith, e, is));
         is_other = λ o. inr (inr (inr (inr (inl is))));
+        untouched = λ why. ⊎_elim (λ e. absurd (omega (arith, e, is))) p.headless why;
         formatted = λ e. absurd (omega (arith, e, is));
         full = λ e. absurd (omega (arith, e, is));
         is_full = λ said not' tolds more told lacks. inr (inr (inr (inr (inl is))));

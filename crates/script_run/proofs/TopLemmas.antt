@@ -24,7 +24,7 @@ use Rattle.script_run.specs.Items.{IsOther, items_of_text}
 use Rattle.script_run.specs.Report.{report_from}
 use Rattle.script_run.specs.Room.{HadRoom}
 use Rattle.script_run.specs.Run.{Runs, StopsFull, ComesNext, RunsGiven, IsTaken, Answers}
-use Rattle.script_run.specs.Top.{RunKeeps, RunTakes, ReturnLeft, IsFullAt}
+use Rattle.script_run.specs.Top.{IsUntouched, RunKeeps, RunTakes, ReturnLeft, IsFullAt}
 use Rattle.script_run.specs.Playing.{IsReported, AnswersOther, Plays, Performs, IsOpeningStop, AnswersNone}
 use Rattle.script_run.proofs.RunLemmas.{more_items}
 use Rattle.script_run.proofs.PlayLemmas.{none_of_other}
@@ -136,24 +136,24 @@ module _ {I M : Type 0} (rules : Rules I) (view : M → MachineView I) (says : L
 
 module _ {I M : Type 0} (rules : Rules I) (view : M → MachineView I) (says : List ℕ → List (Entry I) → Entry I → List ℕ) (scripts : ScriptRules I) (Z : List ℕ) (H : List (Entry I)) (text : List ℕ) (old : BoardView) where
   -- the file is not opened
-  pub performs_not : (new : BoardView) (before : Option (List ℕ)) (stop : Stop) → RunKeeps rules Z H (items_of_text scripts text H) old new → IsOpeningStop stop → (stop ≡ Unformatted → ⊥) → (stop ≡ Full → (machine : M) × (item : I) × (view machine).over item)
+  pub performs_not : (new : BoardView) (before : Option (List ℕ)) (stop : Stop) → RunKeeps rules Z H (items_of_text scripts text H) old new → IsOpeningStop stop → (stop ≡ Unformatted → ⊥) → (stop ≡ Full → (machine : M) × (item : I) × (view machine).over item) → IsUntouched old new
       → Performs rules view says scripts Z H text old new before before (Err stop)
-  performs_not new before Unformatted keeps opening formatted over = absurd (formatted refl)
-  performs_not new before (Line number) keeps opening formatted over = absurd opening
-  performs_not new before (Unfinished id count) keeps opening formatted over = absurd opening
-  performs_not new before Input keeps opening formatted over = absurd opening
-  performs_not new before Output keeps opening formatted over = absurd opening
-  performs_not new before Disk keeps opening formatted over = record { keeps = keeps; takes = λ r. absurd r; idle = λ said taken. absurd taken; number = tt; answers = λ not. tt; refuses = λ o. tt; other = λ id count e. absurd (cc e); full = λ e. absurd (cc e) }
-  performs_not new before Memory keeps opening formatted over = record { keeps = keeps; takes = λ r. absurd r; idle = λ said taken. absurd taken; number = tt; answers = λ not. tt; refuses = λ o. tt; other = λ id count e. absurd (cc e); full = λ e. absurd (cc e) }
-  performs_not new before Full keeps opening formatted over = record { keeps = keeps; takes = λ r. absurd r; idle = λ said taken. absurd taken; number = tt; answers = λ not. tt; refuses = λ o. tt; other = λ id count e. absurd (cc e); full = λ e. inr (over refl) }
+  performs_not new before Unformatted keeps opening formatted over same = absurd (formatted refl)
+  performs_not new before (Line number) keeps opening formatted over same = absurd opening
+  performs_not new before (Unfinished id count) keeps opening formatted over same = absurd opening
+  performs_not new before Input keeps opening formatted over same = absurd opening
+  performs_not new before Output keeps opening formatted over same = absurd opening
+  performs_not new before Disk keeps opening formatted over same = record { keeps = keeps; takes = λ r. absurd r; idle = λ said taken. absurd taken; number = tt; refused = λ id count e. same; headless = λ none. same; answers = λ not. tt; refuses = λ o. tt; other = λ id count e. absurd (cc e); full = λ e. absurd (cc e) }
+  performs_not new before Memory keeps opening formatted over same = record { keeps = keeps; takes = λ r. absurd r; idle = λ said taken. absurd taken; number = tt; refused = λ id count e. same; headless = λ none. same; answers = λ not. tt; refuses = λ o. tt; other = λ id count e. absurd (cc e); full = λ e. absurd (cc e) }
+  performs_not new before Full keeps opening formatted over same = record { keeps = keeps; takes = λ r. absurd r; idle = λ said taken. absurd taken; number = tt; refused = λ id count e. same; headless = λ none. same; answers = λ not. tt; refuses = λ o. tt; other = λ id count e. absurd (cc e); full = λ e. inr (over refl) }
 
   -- the file is opened, and the script is run
   module _ (mid new : BoardView) (engine : Engine M I) (before after : Option (List ℕ)) (agrees : Agrees rules (view engine.machine)) (stands : Stands rules Z H old.octets) (first : SyncsFirst old mid (LeavesPrefix rules Z H old.sent [])) (sent : mid.sent ≡ old.sent) (sound : IsSound new) (tells : IsTrue new.tells) where
     idle_now : (due : (view engine.machine).due ≡ None) (G : List (Entry I)) → Holds rules view Z G new engine → rules.pending Z G ≡ None
     idle_now due G holds = sym (agrees.due Z G holds.lawful holds.shows) ∙ due
 
-    pub performs : (result : Result ℕ Stop) → (IsSome (said_of text) → IsTaken result → (view engine.machine).due ≡ None) → Plays rules view says scripts Z H text mid new engine before after result → Performs rules view says scripts Z H text old new before after result
-    performs (Ok n) idle plays =
+    pub performs : (result : Result ℕ Stop) → (IsSome (said_of text) → IsTaken result → (view engine.machine).due ≡ None) → ((id count : ℕ) → IsErrOf result (Unfinished id count) → IsUntouched old new) → (said_of text ≡ None → IsUntouched old new) → Plays rules view says scripts Z H text mid new engine before after result → Performs rules view says scripts Z H text old new before after result
+    performs (Ok n) idle refused headless plays =
         let not : IsOther (scripts.script_of H) (said_of text) → ⊥ = λ o. (plays.refuses o).0 in
         let q = plays.runs not in
         let r = q.runs tt in record {
@@ -161,24 +161,28 @@ module _ {I M : Type 0} (rules : Rules I) (view : M → MachineView I) (says : L
           takes = λ t. run_takes rules view says Z H (items_of_text scripts text H) old mid new engine before after sent r;
           idle = λ said taken. run_idle rules view says Z H (items_of_text scripts text H) old mid new engine before after sent r (idle_now (idle said taken) (H ++ r.entries) r.holds);
           number = q.number;
+          refused = refused;
+          headless = headless;
           answers = λ not. (plays.runs not).answers;
           refuses = λ o. (plays.refuses o).0;
           other = λ id count e. absurd (cc e);
           full = λ e. absurd (cc e);
         }
-    performs (Err (Line number)) idle plays =
+    performs (Err (Line number)) idle refused headless plays =
         let not : IsOther (scripts.script_of H) (said_of text) → ⊥ = λ o. (plays.refuses o).0 in
         let r = (plays.runs not).runs tt in record {
           keeps = run_keeps rules view says Z H (items_of_text scripts text H) old mid new stands first sent plays.moments sound tells;
           takes = λ t. run_takes rules view says Z H (items_of_text scripts text H) old mid new engine before after sent r;
           idle = λ said taken. run_idle rules view says Z H (items_of_text scripts text H) old mid new engine before after sent r (idle_now (idle said taken) (H ++ r.entries) r.holds);
           number = tt;
+          refused = refused;
+          headless = headless;
           answers = λ not. (plays.runs not).answers;
           refuses = λ o. (plays.refuses o).0;
           other = λ id count e. absurd (cc e);
           full = λ e. absurd (cc e);
         }
-    performs (Err (Unfinished id count)) idle plays =
+    performs (Err (Unfinished id count)) idle refused headless plays =
         let o = plays.other id count refl in
         let none : [] ≡ items_of_text scripts text H = sym (none_of_other scripts (scripts.script_of H) (said_of text) o) in
         let r = subst (λ i. Runs rules view says Z H i mid new engine before after) none (plays.refuses o).1 in record {
@@ -186,66 +190,80 @@ module _ {I M : Type 0} (rules : Rules I) (view : M → MachineView I) (says : L
           takes = λ t. run_takes rules view says Z H (items_of_text scripts text H) old mid new engine before after sent r;
           idle = λ said taken. absurd taken;
           number = tt;
+          refused = refused;
+          headless = headless;
           answers = λ not. (plays.runs not).answers;
           refuses = λ o. (plays.refuses o).0;
           other = λ i c e. o;
           full = λ e. absurd (cc e);
         }
-    performs (Err Unformatted) idle plays = record {
+    performs (Err Unformatted) idle refused headless plays = record {
       keeps = run_keeps rules view says Z H (items_of_text scripts text H) old mid new stands first sent plays.moments sound tells;
       takes = λ t. absurd t;
       idle = λ said taken. absurd taken;
       number = tt;
+      refused = refused;
+      headless = headless;
       answers = λ not. (plays.runs not).answers;
       refuses = λ o. (plays.refuses o).0;
       other = λ id count e. absurd (cc e);
       full = λ e. absurd (cc e);
     }
-    performs (Err Input) idle plays = record {
+    performs (Err Input) idle refused headless plays = record {
       keeps = run_keeps rules view says Z H (items_of_text scripts text H) old mid new stands first sent plays.moments sound tells;
       takes = λ t. absurd t;
       idle = λ said taken. absurd taken;
       number = tt;
+      refused = refused;
+      headless = headless;
       answers = λ not. (plays.runs not).answers;
       refuses = λ o. (plays.refuses o).0;
       other = λ id count e. absurd (cc e);
       full = λ e. absurd (cc e);
     }
-    performs (Err Disk) idle plays = record {
+    performs (Err Disk) idle refused headless plays = record {
       keeps = run_keeps rules view says Z H (items_of_text scripts text H) old mid new stands first sent plays.moments sound tells;
       takes = λ t. absurd t;
       idle = λ said taken. absurd taken;
       number = tt;
+      refused = refused;
+      headless = headless;
       answers = λ not. (plays.runs not).answers;
       refuses = λ o. (plays.refuses o).0;
       other = λ id count e. absurd (cc e);
       full = λ e. absurd (cc e);
     }
-    performs (Err Output) idle plays = record {
+    performs (Err Output) idle refused headless plays = record {
       keeps = run_keeps rules view says Z H (items_of_text scripts text H) old mid new stands first sent plays.moments sound tells;
       takes = λ t. absurd t;
       idle = λ said taken. absurd taken;
       number = tt;
+      refused = refused;
+      headless = headless;
       answers = λ not. (plays.runs not).answers;
       refuses = λ o. (plays.refuses o).0;
       other = λ id count e. absurd (cc e);
       full = λ e. absurd (cc e);
     }
-    performs (Err Memory) idle plays = record {
+    performs (Err Memory) idle refused headless plays = record {
       keeps = run_keeps rules view says Z H (items_of_text scripts text H) old mid new stands first sent plays.moments sound tells;
       takes = λ t. absurd t;
       idle = λ said taken. absurd taken;
       number = tt;
+      refused = refused;
+      headless = headless;
       answers = λ not. (plays.runs not).answers;
       refuses = λ o. (plays.refuses o).0;
       other = λ id count e. absurd (cc e);
       full = λ e. absurd (cc e);
     }
-    performs (Err Full) idle plays = record {
+    performs (Err Full) idle refused headless plays = record {
       keeps = run_keeps rules view says Z H (items_of_text scripts text H) old mid new stands first sent plays.moments sound tells;
       takes = λ t. absurd t;
       idle = λ said taken. absurd taken;
       number = tt;
+      refused = refused;
+      headless = headless;
       answers = λ not. (plays.runs not).answers;
       refuses = λ o. (plays.refuses o).0;
       other = λ id count e. absurd (cc e);

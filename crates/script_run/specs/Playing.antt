@@ -14,7 +14,7 @@ use Rattle.script_run.specs.declared.stop.Stop.TheVariants.{Unformatted, Line, U
 use Rattle.pef_engine.specs.Scripts.{ScriptRules}
 use Rattle.script_run.specs.Items.{IsOther, items_of_text}
 use Rattle.script_run.specs.Report.{says}
-use Rattle.script_run.specs.Top.{RunKeeps, RunTakes, IsFullAt}
+use Rattle.script_run.specs.Top.{RunKeeps, RunTakes, IsFullAt, IsUntouched}
 use Rattle.script_run.specs.Run.{Runs, IsTaken, Answers, RunsGiven}
 
 -- what it may answer where another script is unfinished: it names that one, unless something failed before
@@ -67,6 +67,8 @@ pub record Performs {I M : Type 0} (rules : Rules I) (view : M → MachineView I
   pub takes : IsReported result → RunTakes rules says Z H (items_of_text scripts text H) old new before after []
   pub idle : IsSome (said_of text) → IsTaken result → (tolds : List Told) → tolds_of new.sent ≡ tolds_of old.sent ++ tolds → rules.pending Z (H ++ crash_free_run rules Z H (items_of_text scripts text H) tolds) ≡ None
   pub number : IfOk result (λ n. n ≡ length (items_of_text scripts text H))
+  pub refused : (id count : ℕ) → IsErrOf result (Unfinished id count) → IsUntouched old new
+  pub headless : said_of text ≡ None → IsUntouched old new
   pub answers : (IsOther (scripts.script_of H) (said_of text) → ⊥) → Answers (bad_line (said_of text)) result
   pub refuses : IsOther (scripts.script_of H) (said_of text) → AnswersOther (scripts.script_of H) result
   pub other : (id count : ℕ) → IsErrOf result (Unfinished id count) → IsOther (scripts.script_of H) (said_of text)

@@ -60,6 +60,11 @@ pub record RunStops {I : Type 0} (rules : Rules I) (says : List ℕ → List (En
   pub is_part : IsPartOf part last writes_before writes_after
   pub takes : RunTakes rules says Z H items old new before after part
 
+-- nothing was written and nothing issued
+pub record IsUntouched (old new : BoardView) : Type 0 where
+  pub octets : new.octets ≡ old.octets
+  pub sent : new.sent ≡ old.sent
+
 -- A run over a file that stands for the lawful history H, with this text, and its status.
 pub record RunAnswers {I M : Type 0} (rules : Rules I) (view : M → MachineView I) (scripts : ScriptRules I) (Z : List ℕ) (H : List (Entry I)) (text : List ℕ) (old new : BoardView) (before after : Option (List ℕ)) (writes_before writes_after status : ℕ) : Type 0 where
   -- at every moment the file stands for a prefix of the run without a crash, with the steps that it prescribes
@@ -74,6 +79,8 @@ pub record RunAnswers {I M : Type 0} (rules : Rules I) (view : M → MachineView
   pub other : status ≡ 5 → IsOther (scripts.script_of H) (said_of text) × ((id : ℕ) × (count : ℕ) × IfSome (scripts.script_of H) (λ s. (s.id ≡ id) × (s.count ≡ count))
       × RunStops rules (says rules scripts) Z H (items_of_text scripts text H) old new before after writes_before writes_after (unfinished_line id count))
   pub is_other : IsOther (scripts.script_of H) (said_of text) → IsOneOf status (5 ∷ 6 ∷ 7 ∷ 9 ∷ 10 ∷ [])
+  -- where another script is unfinished, or line 1 is no head, nothing is written and nothing issued
+  pub untouched : (status ≡ 5) ⊎ (said_of text ≡ None) → IsUntouched old new
   pub formatted : status ≢ 3
   -- 9 exactly where the next entry of the run without a crash has no room, unless something failed before
   pub full : status ≡ 9 → IsFullAt rules view Z H (items_of_text scripts text H) old new ⊎ ((machine : M) × (item : I) × (view machine).over item)

@@ -40,6 +40,9 @@ pub(crate) fn play<M: Scripted, B: Board, S: Source, K: Sink>(
     ensures input { IsErrOf result Stop.Input → Rose (S.faults source.old) (S.faults source.new) }
     ensures memory { IsErrOf result Stop.Memory → IsTrue M.rules.takes_memory }
     ensures formatted { IsErrOf result Stop.Unformatted → ⊥ }
+    // where another script is unfinished, or line 1 is no head, nothing is done
+    ensures refused { (id count : ℕ) → IsErrOf result (Stop.Unfinished id count) → board.new ≡ board.old }
+    ensures headless { (text : List ℕ) → S.left source.old ≡ Some text → said_of text ≡ None → board.new ≡ board.old }
     // where line 1 is good, nothing is pending behind the items that were taken
     ensures idle { (text : List ℕ) → S.left source.old ≡ Some text → IsSome (said_of text) → IsTaken result → (M.view engine.new.machine).due ≡ None }
 {

@@ -71,3 +71,10 @@ pub returns-in-Err-clause-idle : goal.returns-in-Err-clause-idle
 returns-in-Err-clause-idle g c = λ text left said taken.
     let unread = reader_left c.new-reader.result (g.S.Source.left c.args.source.now) text c.new-reader.ensures left in
     absurd (head_not text c.read_head.new.reader (g.S.Source.left c.read_head.new.source) c.in-Err.stop (c.in-Err.ensures.head text unread) said taken)
+
+pub returns-clause-headless : goal.returns-clause-headless
+returns-clause-headless g c = λ text left none.
+    let unread = reader_left c.new-reader.result (g.S.Source.left c.args.source.now) text c.new-reader.ensures left in
+    let head = c.in-Ok.ensures.head text unread in
+    let clash : None ≡ Some _ = sym none ∙ head.said in
+    absurd (cc clash)

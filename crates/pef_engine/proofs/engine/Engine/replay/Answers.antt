@@ -184,7 +184,6 @@ entries-preserved-in-Ok-make_ready g c = record {
   octets = λ t. c.entry.ensures.file.octets t ∙ c.entries.invariant.octets (c.entry.ensures.file.call.run.tells t);
   moments = λ t. syncs_reads (g.B.Board.view c.args.board.now) (g.B.Board.view c.entries.board) (g.B.Board.view c.entry.new.board) (LeavesAsRead (g.B.Board.view c.args.board.now))
       (g.met.B.Board.sound c.entries.board) (g.met.B.Board.sound c.entry.new.board) c.entry.ensures.file t (c.entries.invariant.moments (c.entry.ensures.file.call.run.tells t));
-  fits = c.entry.ensures.fits;
   replayed =
       let rules' = g.M.Machine.rules in
       let view' = g.M.Machine.view in
@@ -210,7 +209,6 @@ entries-preserved g c = record {
   octets = λ t. c.entry.ensures.file.octets t ∙ c.entries.invariant.octets (c.entry.ensures.file.call.run.tells t);
   moments = λ t. syncs_reads (g.B.Board.view c.args.board.now) (g.B.Board.view c.entries.board) (g.B.Board.view c.entry.new.board) (LeavesAsRead (g.B.Board.view c.args.board.now))
       (g.met.B.Board.sound c.entries.board) (g.met.B.Board.sound c.entry.new.board) c.entry.ensures.file t (c.entries.invariant.moments (c.entry.ensures.file.call.run.tells t));
-  fits = c.entry.ensures.fits;
   replayed =
       let rules' = g.M.Machine.rules in
       let view' = g.M.Machine.view in

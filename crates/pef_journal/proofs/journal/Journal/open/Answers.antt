@@ -39,7 +39,6 @@ read g c = λ tells.
       file = has;
       payloads = tt;
       place = omega (arith, same, ap length (append-nil Y));
-      file_length = size;
       lasting = λ image now.
           c.in_ok-file_length.ensures.lasting tells_w image ((c.read_at.ensures.same.images tells_x image).0 ((c.read_at-2.ensures.same.images tells image).0 now)) ∙ sym (octets_y ∙ octets_x);
     }

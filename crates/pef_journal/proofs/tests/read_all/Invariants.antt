@@ -1,5 +1,0 @@
-use Rattle.pef_journal.specs.Journal.{KnowsLength}
-use Rattle.pef_journal.proofs.tests.read_all.Given as goal
-
-abbrev pub invariant-gates : goal.invariant-gates
-invariant-gates g l = KnowsLength (g.B.Board.view l.board) l.journal
