@@ -1,4 +1,5 @@
-// The form `run` at the end of the room: a state file has at most 16,777,216 octets.
+// The form `run` at the end of the room: a state file has at most 16,777,216 octets. `rt test` runs it in a second or two; the checks
+// of `rt try --test` make it too slow for the time that a test has there.
 use super::{CLOSED, DONE, MADE, OPENED, event, records_of, words_in};
 use crate::program::top;
 use board_core::{MemBoard, MemSink, MemSource};

@@ -291,6 +291,12 @@ fn run_says_what_stopped_it(rt: HostRuntime) {
             failing_source: &[0],
             ..unformatted
         },
+        Case {
+            what: "a file of no kind, and a sink that fails",
+            failing_sink: Some(0),
+            written: "",
+            ..unformatted
+        },
         other,
         Case {
             what: "the same number with another count",
