@@ -139,6 +139,10 @@ module _ (past : Past) (traced : IsTraced past) (tells : Bool) (octets : List �
           told = leaves.told ∙ ap tolds_of (answered_middle past traced Issued sent_more front);
         }
 
+    since_call : (left : CrashState) → LeavesAt (with_more past Issued sent_more) (2 * past.made + 1) left ⊎ LeavesAt (with_more past Issued sent_more) (2 * past.made + 2) left → LeftSince (with_more past Issued sent_more) (2 * past.made) left
+    since_call left (inl within) = record { moment = 2 * past.made + 1; later = omega arith; had = omega arith; leaves = within }
+    since_call left (inr behind) = record { moment = 2 * past.made + 2; later = omega arith; had = omega arith; leaves = behind }
+
     pub issues : Issues sent.step sent.told view (view_of tells octets d' i' (with_more past Issued sent_more))
     issues = record {
       tells = λ t. t;
@@ -151,7 +155,7 @@ module _ (past : Past) (traced : IsTraced past) (tells : Bool) (octets : List �
       later = λ t. omega arith;
       nothing_else = λ t since left le was.
           ⊎_elim inl
-          (λ more. inr (⊎_elim (λ within. inl (in_flight left within))
+          (λ more. inr (since_call left more, ⊎_elim (λ within. inl (in_flight left within))
           (λ behind. inr (now_from_leaves (with_more past Issued sent_more) (traced_more past traced Issued sent_more front (ap (λ n. n + 1) traced.listed ∙ sym (length_push past.sent sent))) (2 * past.made + 2) (omega arith) tells octets d' i' left behind)) more))
           (since_more past traced Issued sent_more front since left was);
       keeps = λ t since left le was. keeps past traced Issued sent_more front since left was;

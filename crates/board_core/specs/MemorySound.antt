@@ -39,6 +39,7 @@ memory_sound board = record {
     leaves = leaves_now past traced (2 * past.made) (omega arith) board.tells board.trace.octets.items board.disk_faults board.issue_faults left now;
   };
   only_now = λ tells left was. now_from_leaves past traced was.moment was.later board.tells board.trace.octets.items board.disk_faults board.issue_faults left was.leaves;
+  earlier = λ tells since later left le was. record { moment = was.moment; later = omega (arith, le, was.later); had = was.had; leaves = was.leaves };
 }
   where
     past : Past

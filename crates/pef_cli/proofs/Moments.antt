@@ -1,29 +1,10 @@
 -- What a crash in a call of `init` leaves.
 use Rattle.std.proofs.Common.{◌≡◌, inl, inr, ⊎_elim, ℕ, List, Option, Some, None, false, is_some, arith, ap, ◌∙◌, subst, true≢false}
-use Rattle.board_core.specs.Board.{SyncsThen, BoardView, CrashState, LeavesOnly, SyncsFirst, SameSteps, steps_of, tolds_of}
+use Rattle.board_core.specs.Board.{BoardView, CrashState, LeavesOnly, SyncsFirst, SameSteps, steps_of, tolds_of}
 use Rattle.pef_journal.specs.Image.{IsFormatted, IsEmptyOrUnformatted, KindIs}
 use Rattle.pef_journal.specs.Journal.{LeavesAsRead}
+use Rattle.pef_journal.proofs.Moments.{syncs_map, syncs_then}
 use Rattle.pef_cli.specs.Init.{controller, Gives, LeavesMade, KeepsMoments}
-
--- the first sync, and what comes behind it
-pub syncs_then : (old mid new : BoardView) (P Q R : CrashState → Type 0) → SyncsFirst old mid P → LeavesOnly mid new Q → ((left : CrashState) → P left → R left) → ((left : CrashState) → Q left → R left) → SyncsThen old new R
-syncs_then old mid new P Q R first later p q = record {
-  synced = first.synced;
-  after_start = first.after_start;
-  by_now = omega (arith, first.by_now, later.later);
-  until = λ c since. ⊎_elim (λ m. ⊎_elim inl (λ s. inr (p c (first.since c s))) (first.until c m)) (λ h. inr (q c h)) (later.before old.moment c (omega (arith, first.after_start, first.by_now)) since);
-  since = λ c since. ⊎_elim (λ s. p c (first.since c s)) (q c) (later.before first.synced c first.by_now since);
-}
-
--- the first sync alone
-pub syncs_only : (old new : BoardView) (P R : CrashState → Type 0) → SyncsFirst old new P → ((left : CrashState) → P left → R left) → SyncsThen old new R
-syncs_only old new P R first p = record {
-  synced = first.synced;
-  after_start = first.after_start;
-  by_now = first.by_now;
-  until = λ c since. ⊎_elim inl (λ s. inr (p c (first.since c s))) (first.until c since);
-  since = λ c since. p c (first.since c since);
-}
 
 module _ (source : Option (List ℕ)) (old : BoardView) where
   pub as_read : (left : CrashState) → LeavesAsRead old left → LeavesMade source old left
@@ -35,7 +16,7 @@ module _ (source : Option (List ℕ)) (old : BoardView) where
 
   -- nothing was written behind the first sync
   pub kept : (new : BoardView) → SyncsFirst old new (LeavesAsRead old) → KeepsMoments source old new
-  kept new first = inr (syncs_only old new (LeavesAsRead old) (LeavesMade source old) first as_read)
+  kept new first = inr (syncs_map old new (LeavesAsRead old) (LeavesMade source old) as_read first)
 
   module _ (mid : BoardView) (settings : List ℕ) (sent : mid.sent ≡ old.sent) (isnt : IsFormatted old.octets → ⊥) (gives : Gives source settings) where
     while_made : (left : CrashState) → SameSteps mid left × IsEmptyOrUnformatted controller settings left.image → LeavesMade source old left

@@ -1,7 +1,7 @@
 -- What formatting a controller's state file does, answers and leaves.
 use Rattle.std.specs.Prelude.{◌≡◌, ◌⊎◌, ℕ, ◌≤◌, IsTrue, List, [], ◌∷◌, ◌++◌, ◌+◌, length, drop, Option, Some, None}
 use Rattle.board_core.specs.Causes.{Rose}
-use Rattle.board_core.specs.Board.{SyncsThen, BoardView, CrashState, LeftNow, SameSteps, Only, NeverSynced}
+use Rattle.board_core.specs.Board.{SyncsFirst, BoardView, CrashState, LeftNow, SameSteps, Only, NeverSynced}
 use Rattle.pef_journal.specs.Image.{header, IsFormatted, Stands}
 use Rattle.script_text.specs.Settings.{settings_of}
 use Rattle.script_text.specs.declared.whole.TextFault.{TextFault}
@@ -57,7 +57,7 @@ pub record LeavesMade (source : Option (List ℕ)) (old : BoardView) (left : Cra
 -- Until the first sync nothing is written. From then on each crash leaves the file as it was, or one that isn't formatted, or the
 -- one that is to be made.
 abbrev pub KeepsMoments : Option (List ℕ) → BoardView → BoardView → Type 0
-KeepsMoments source old new = (NeverSynced old new × (new.octets ≡ old.octets)) ⊎ SyncsThen old new (LeavesMade source old)
+KeepsMoments source old new = (NeverSynced old new × (new.octets ≡ old.octets)) ⊎ SyncsFirst old new (LeavesMade source old)
 
 -- A call of `init` on a board, a source with so many faults, and a sink, and its status.
 pub record Inits (old new : BoardView) (source : Option (List ℕ)) (reads_before reads_after : ℕ) (before after : Option (List ℕ)) (writes_before writes_after status : ℕ) : Type 0 where

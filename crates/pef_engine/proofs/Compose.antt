@@ -96,11 +96,3 @@ module _ {I : Type 0} (rules : Rules I) (Z : List ℕ) where
       (lawful_compose H K here.entries lawful here.lawful)
       (subst (λ h. Stands rules Z h left.image) (append_assoc H K here.entries) here.stands)
       (kept_behind H K here.entries T here.steps is here.kept)
-
-  -- a later call's moments join those so far
-  pub leaves_compose : (start now new : BoardView) (P Q : CrashState → Type 0) → LeavesOnly start now P → LeavesOnly now new Q → ((left : CrashState) → Q left → P left) → LeavesOnly start new P
-  leaves_compose start now new P Q first second along = record {
-    later = omega (arith, first.later, second.later);
-    each = λ left since. ⊎_elim (first.each left) (along left) (second.before start.moment left first.later since);
-    before = λ t left le since. ⊎_elim (first.before t left le) (λ q. inr (along left q)) (second.before t left (omega (arith, le, first.later)) since);
-  }

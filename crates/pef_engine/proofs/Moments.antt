@@ -9,6 +9,7 @@ use Rattle.pef_engine.specs.declared.entry.Entry.{Entry}
 use Rattle.pef_engine.specs.declared.entry.Entry.TheVariants.{Item, Outcome}
 use Rattle.pef_journal.specs.Image as image
 use Rattle.pef_journal.specs.Journal.{StandsForEither}
+use Rattle.pef_journal.proofs.Moments.{leaves_compose, leaves_map}
 use Rattle.pef_engine.specs.Rules.{Rules, LawfulFrom, Stands, IsItem, Allowed}
 use Rattle.pef_engine.specs.CrashFree.{crash_free_run, items_of, IsPrefixOf, Kept, LeavesPrefix}
 use Rattle.pef_engine.proofs.Prefixes.{one_prefix, run_outcome, run_item, kept_none, kept_flight, kept_outcome, kept_item}
@@ -36,7 +37,7 @@ module _ {I : Type 0} (rules : Rules I) (Z : List ℕ) (H : List (Entry I)) (v :
       leaves items left [] [] [] (same.issued ∙ sym (append-nil (steps_of v.sent))) (same.told ∙ sym (append-nil (tolds_of v.sent))) (crash_free_run rules Z H items [], refl) tt
       (subst (λ h. Stands rules Z h left.image) (sym (append-nil H)) stands) (kept_none rules Z H)
 
-  module _ (w x : BoardView) (step : Step) (told : Told) (due : rules.pending Z H ≡ Some step) (sound : IsSound v) (tells_v : IsTrue v.tells) (tells_w : IsTrue w.tells) (issues : Issues step told v w)
+  module _ (w x : BoardView) (step : Step) (told : Told) (due : rules.pending Z H ≡ Some step) (sound : IsSound v) (sound_w : IsSound w) (tells_v : IsTrue v.tells) (tells_w : IsTrue w.tells) (issues : Issues step told v w)
       (stands_now : (c : List ℕ) → v.images c → Stands rules Z H c) where
     sent_is : w.sent ≡ v.sent ++ record { step = step; told = told } ∷ []
     sent_is = issues.sent tells_w
@@ -71,10 +72,18 @@ module _ {I : Type 0} (rules : Rules I) (Z : List ℕ) (H : List (Entry I)) (v :
     pub after_issue : (left : CrashState) → LeftNow w left → LeavesPrefix rules Z H v.sent [] left
     after_issue left now = not_stored left now.issued now.told (stands_now left.image ((issues.images tells_w left.image).0 now.image))
 
-    -- a crash since the start of the call, where only the step was issued
-    issued_only : (t : ℕ) (left : CrashState) → t ≤ v.moment → w.left_since t left → v.left_since t left ⊎ LeavesPrefix rules Z H v.sent [] left
-    issued_only t left le since =
-        ⊎_elim inl (λ more. inr (⊎_elim (in_flight left) (after_issue left) more)) (issues.nothing_else tells_w t left le since)
+    -- a crash in the call that issues the step
+    issue_moments : LeavesOnly v w (LeavesPrefix rules Z H v.sent [])
+    issue_moments = record {
+      later = issues.later tells_w;
+      each = λ left since. ⊎_elim
+          (λ was. before_issue left (sound.only_now tells_v left was))
+          (λ so. ⊎_elim (in_flight left) (after_issue left) so.1)
+          (issues.nothing_else tells_w v.moment left (omega arith) since);
+      before = λ t left le since. ⊎_elim inl (λ so. inr so.0) (issues.nothing_else tells_w t left le since);
+      keeps = issues.keeps tells_w;
+      earlier = sound_w.earlier tells_w;
+    }
 
     in_append : (left : CrashState) → SameSteps w left × StandsForEither rules.kind Z (map rules.encode H) (rules.encode (Outcome told)) left.image → LeavesPrefix rules Z H v.sent [] left
     in_append left (same, inl without) = not_stored left same.issued same.told without
@@ -82,21 +91,13 @@ module _ {I : Type 0} (rules : Rules I) (Z : List ℕ) (H : List (Entry I)) (v :
         stored left same.issued same.told (subst (λ (l : List (List ℕ)). image.Stands rules.kind Z l left.image) (sym (map-append rules.encode H (Outcome told ∷ []))) with_it)
 
     pub settle_moments : LeavesOnly w x (λ left. SameSteps w left × StandsForEither rules.kind Z (map rules.encode H) (rules.encode (Outcome told)) left.image) → LeavesOnly v x (LeavesPrefix rules Z H v.sent [])
-    settle_moments append = record {
-      later = omega (arith, issues.later tells_w, append.later);
-      each = λ left since. ⊎_elim (λ w_since. ⊎_elim (λ v_since. before_issue left (sound.only_now tells_v left v_since)) (λ p. p) (issued_only v.moment left (omega arith) w_since)) (in_append left) (append.before v.moment left (issues.later tells_w) since);
-      before = λ t left le since. ⊎_elim (issued_only t left le) (λ p. inr (in_append left p)) (append.before t left (omega (arith, le, issues.later tells_w)) since);
-    }
+    settle_moments append = leaves_compose v w x (LeavesPrefix rules Z H v.sent []) _ issue_moments append in_append
 
   -- an item is stored or it isn't
   pub take_moments : (x : BoardView) (item : I) → Allowed rules Z H (Item item)
       → LeavesOnly v x (λ left. SameSteps v left × StandsForEither rules.kind Z (map rules.encode H) (rules.encode (Item item)) left.image)
       → LeavesOnly v x (LeavesPrefix rules Z H v.sent (item ∷ []))
-  take_moments x item allowed append = record {
-    later = append.later;
-    each = λ left since. one left (append.each left since);
-    before = λ t left le since. ⊎_elim inl (λ p. inr (one left p)) (append.before t left le since);
-  }
+  take_moments x item allowed append = leaves_map v x _ (LeavesPrefix rules Z H v.sent (item ∷ [])) one append
     where
       one : (left : CrashState) → SameSteps v left × StandsForEither rules.kind Z (map rules.encode H) (rules.encode (Item item)) left.image → LeavesPrefix rules Z H v.sent (item ∷ []) left
       one left (same, inl without) = leaves_start (item ∷ []) left same without

@@ -45,4 +45,6 @@ module _ {I : Type 0} (rules : Rules I) (Z : List ℕ) where
         let now = sound.only_now tells left since in
         leaves_start rules Z H v items left (record { issued = now.issued; told = now.told }) (stands left.image now.image);
     before = λ t left le since. inl since;
+    keeps = λ t left le since. since;
+    earlier = sound.earlier tells;
   }

@@ -30,7 +30,7 @@ torn_mark old c not_yet (inr marked) torn is =
     let same : c ≡ old = mark.1 ∙ ap (λ l. 165 ∷ l) (ap (drop 1) (sym mark.1) ∙ back ∙ ap (drop 1) marked.1) ∙ sym marked.1 in
     not_yet (subst IsFormatted same is)
 
-module _ (v w : BoardView) (sound : IsSound v) (lasting : IsTrue v.tells → Only v.octets v.images) (not_yet : IsTrue v.tells → IsFormatted v.octets → ⊥) (reads : Reads v w) where
+module _ (v w : BoardView) (sound : IsSound v) (sound_w : IsSound w) (lasting : IsTrue v.tells → Only v.octets v.images) (not_yet : IsTrue v.tells → IsFormatted v.octets → ⊥) (reads : Reads v w) where
   pub only_read : IsTrue w.tells → Only w.octets w.images
   only_read tells c now = lasting (reads.call.run.tells tells) c ((reads.images tells c).0 now) ∙ sym (reads.octets tells)
 
@@ -39,7 +39,7 @@ module _ (v w : BoardView) (sound : IsSound v) (lasting : IsTrue v.tells → Onl
       let tells_v = reads.call.run.tells tells in
       goes_on v v w (LeavesUnformatted v)
       (started v (LeavesUnformatted v) sound tells_v (λ left now. (record { issued = now.issued; told = now.told }, λ is. not_yet tells_v (subst IsFormatted (lasting tells_v left.image now.image) is))))
-      reads.call tells
+      reads.call sound_w tells
       (λ left now. (steps_same v w left (reads.call.run.sent tells) now, λ is. not_yet tells_v (subst IsFormatted (only_read tells left.image now.image ∙ reads.octets tells) is)))
 
   module _ (x : BoardView) (may : IsTrue w.tells → MayBeMarked v.octets) (run : IsFileRun w x) where

@@ -5,14 +5,25 @@ use Rattle.board_core.specs.Board.{BoardView, CrashState, LeftNow, IsSound, IsFi
 
 -- before the first call
 pub started : (v : BoardView) (P : CrashState → Type 0) → IsSound v → IsTrue v.tells → ((left : CrashState) → LeftNow v left → P left) → LeavesOnly v v P
-started v P sound tells here = record { later = omega arith; each = λ left since. here left (sound.only_now tells left since); before = λ t left le since. inl since }
+started v P sound tells here = record {
+  later = omega arith;
+  each = λ left since. here left (sound.only_now tells left since);
+  before = λ t left le since. inl since;
+  keeps = λ t left le since. since;
+  earlier = sound.earlier tells;
+}
 
 -- one call of the file more
-pub goes_on : (old mid new : BoardView) (P : CrashState → Type 0) → LeavesOnly old mid P → IsFileCall mid new → IsTrue new.tells → ((left : CrashState) → LeftNow new left → P left) → LeavesOnly old new P
-goes_on old mid new P so_far call tells here = record {
+pub goes_on : (old mid new : BoardView) (P : CrashState → Type 0) → LeavesOnly old mid P → IsFileCall mid new → IsSound new → IsTrue new.tells → ((left : CrashState) → LeftNow new left → P left) → LeavesOnly old new P
+goes_on old mid new P so_far call sound tells here = record {
   later = omega (arith, so_far.later, call.run.later tells);
   each = λ left since. ⊎_elim (so_far.each left) (here left) (call.nothing_else tells old.moment left so_far.later since);
-  before = λ t left le since. ⊎_elim (so_far.before t left le) (λ now. inr (here left now)) (call.nothing_else tells t left (omega (arith, le, so_far.later)) since);
+  before = λ t left le since. ⊎_elim
+      (λ was. ⊎_elim inl (λ so. inr (call.run.keeps tells old.moment left so_far.later so)) (so_far.before t left le was))
+      (λ now. inr (sound.counts_now tells old.moment left (omega (arith, so_far.later, call.run.later tells)) now))
+      (call.nothing_else tells t left (omega (arith, le, so_far.later)) since);
+  keeps = λ t left le since. call.run.keeps tells t left (omega (arith, le, so_far.later)) (so_far.keeps t left le since);
+  earlier = sound.earlier tells;
 }
 
 -- two runs of calls of the file
@@ -31,8 +42,13 @@ run_compose u v w first second = record {
 pub leaves_compose : (start now new : BoardView) (P Q : CrashState → Type 0) → LeavesOnly start now P → LeavesOnly now new Q → ((left : CrashState) → Q left → P left) → LeavesOnly start new P
 leaves_compose start now new P Q first second along = record {
   later = omega (arith, first.later, second.later);
-  each = λ left since. ⊎_elim (first.each left) (along left) (second.before start.moment left first.later since);
-  before = λ t left le since. ⊎_elim (first.before t left le) (λ q. inr (along left q)) (second.before t left (omega (arith, le, first.later)) since);
+  each = λ left since. ⊎_elim (first.each left) (λ so. along left (second.each left so)) (second.before start.moment left first.later since);
+  before = λ t left le since. ⊎_elim
+      (λ was. ⊎_elim inl (λ so. inr (second.keeps start.moment left first.later so)) (first.before t left le was))
+      (λ so. inr (second.earlier start.moment now.moment left first.later so))
+      (second.before t left (omega (arith, le, first.later)) since);
+  keeps = λ t left le since. second.keeps t left (omega (arith, le, first.later)) (first.keeps t left le since);
+  earlier = second.earlier;
 }
 
 -- the same said of a weaker fact
@@ -40,7 +56,22 @@ pub leaves_map : (old new : BoardView) (P Q : CrashState → Type 0) → ((left 
 leaves_map old new P Q along run = record {
   later = run.later;
   each = λ left since. along left (run.each left since);
-  before = λ t left le since. ⊎_elim inl (λ p. inr (along left p)) (run.before t left le since);
+  before = run.before;
+  keeps = run.keeps;
+  earlier = run.earlier;
+}
+
+-- what comes behind the first sync
+pub syncs_then : (old mid new : BoardView) (P Q R : CrashState → Type 0) → SyncsFirst old mid P → LeavesOnly mid new Q → ((left : CrashState) → P left → R left) → ((left : CrashState) → Q left → R left) → SyncsFirst old new R
+syncs_then old mid new P Q R first run p q = record {
+  synced = first.synced;
+  after_start = first.after_start;
+  by_now = omega (arith, first.by_now, run.later);
+  until = λ left since. ⊎_elim
+      (λ was. ⊎_elim inl (λ so. inr (run.keeps first.synced left first.by_now so)) (first.until left was))
+      (λ so. inr (run.earlier first.synced mid.moment left first.by_now so))
+      (run.before old.moment left (omega (arith, first.after_start, first.by_now)) since);
+  since = λ left since. ⊎_elim (λ so. p left (first.since left so)) (λ so. q left (run.each left so)) (run.before first.synced left first.by_now since);
 }
 
 pub syncs_map : (old new : BoardView) (P Q : CrashState → Type 0) → ((left : CrashState) → P left → Q left) → SyncsFirst old new P → SyncsFirst old new Q
@@ -116,18 +147,18 @@ pub steps_same : (v w : BoardView) (left : CrashState) → w.sent ≡ v.sent →
 steps_same v w left sent now = record { issued = now.issued ∙ ap steps_of sent; told = now.told ∙ ap tolds_of sent }
 
 -- a write, done or failed
-pub write_leaves : (v w : BoardView) (place n : ℕ) → IsSound v → IsFileCall v w → IsTrue w.tells → Follows (Torn place n) v.images w.images → LeavesOnly v w (LeavesTorn place n v)
-write_leaves v w place n sound call tells images =
+pub write_leaves : (v w : BoardView) (place n : ℕ) → IsSound v → IsSound w → IsFileCall v w → IsTrue w.tells → Follows (Torn place n) v.images w.images → LeavesOnly v w (LeavesTorn place n v)
+write_leaves v w place n sound sound_w call tells images =
     goes_on v v w (LeavesTorn place n v)
     (started v (LeavesTorn place n v) sound (call.run.tells tells) (λ left now. (left.image, now.image, torn_self place n left.image, steps_same v v left refl now)))
-    call tells (λ left now. let from = images left.image now.image in (from.0, from.1, from.2, steps_same v w left (call.run.sent tells) now))
+    call sound_w tells (λ left now. let from = images left.image now.image in (from.0, from.1, from.2, steps_same v w left (call.run.sent tells) now))
 
 -- and the sync behind it
-pub sync_leaves : (v w x : BoardView) (place n : ℕ) → IsSound v → IsFileCall v w → IsFileCall w x → IsTrue x.tells → (IsTrue w.tells → Follows (Torn place n) v.images w.images) → ((c : List ℕ) → x.images c → w.images c)
+pub sync_leaves : (v w x : BoardView) (place n : ℕ) → IsSound v → IsSound w → IsSound x → IsFileCall v w → IsFileCall w x → IsTrue x.tells → (IsTrue w.tells → Follows (Torn place n) v.images w.images) → ((c : List ℕ) → x.images c → w.images c)
     → LeavesOnly v x (LeavesTorn place n v)
-sync_leaves v w x place n sound call_w call_x tells images fewer =
+sync_leaves v w x place n sound sound_w sound_x call_w call_x tells images fewer =
     let tells_w = call_x.run.tells tells in
-    goes_on v w x (LeavesTorn place n v) (write_leaves v w place n sound call_w tells_w (images tells_w)) call_x tells
+    goes_on v w x (LeavesTorn place n v) (write_leaves v w place n sound sound_w call_w tells_w (images tells_w)) call_x sound_x tells
     (λ left now. let from = images tells_w left.image (fewer left.image now.image) in (from.0, from.1, from.2, steps_same v x left (call_x.run.sent tells ∙ call_w.run.sent tells_w) now))
 
 -- the steps of a run of calls of the file stay

@@ -21,4 +21,5 @@ silent_sound disk_faults issue_faults = record {
   is_image = λ tells. absurd (false≢true tells);
   counts_now = λ tells. absurd (false≢true tells);
   only_now = λ tells. absurd (false≢true tells);
+  earlier = λ tells. absurd (false≢true tells);
 }

@@ -20,7 +20,8 @@ use Rattle.script_run.specs.Room.{file_size, HadRoom}
 use Rattle.script_run.specs.Run.{Runs}
 use Rattle.pef_engine.proofs.Prefixes.{prescribed-append}
 use Rattle.pef_engine.proofs.Stored.{images_stand, nothing_moments}
-use Rattle.pef_engine.proofs.Compose.{lawful_compose, leaves_behind, leaves_compose}
+use Rattle.pef_engine.proofs.Compose.{lawful_compose, leaves_behind}
+use Rattle.pef_journal.proofs.Moments.{leaves_compose, leaves_map}
 
 pub entry_items-append : {I : Type 0} (K L : List (Entry I)) → entry_items (K ++ L) ≡ entry_items K ++ entry_items L
 entry_items-append [] L = refl
@@ -98,12 +99,8 @@ module _ {I M : Type 0} (rules : Rules I) (view : M → MachineView I) (says : L
   pub moments_behind : (H : List (Entry I)) (items more : List I) (start now new : BoardView) (engine : Engine M I) (before after : Option (List ℕ)) (p : Runs rules view says Z H items start now engine before after)
       → LeavesOnly now new (LeavesPrefix rules Z (H ++ p.entries) now.sent more) → LeavesOnly start new (LeavesPrefix rules Z H start.sent (items ++ more))
   moments_behind H items more start now new engine before after p later =
-      leaves_compose rules Z start now new (LeavesPrefix rules Z H start.sent (items ++ more)) (LeavesPrefix rules Z (H ++ p.entries) now.sent more)
-      (record {
-        later = p.moments.later;
-        each = λ left since. more_items H start items more left (p.moments.each left since);
-        before = λ t left le since. ⊎_elim inl (λ q. inr (more_items H start items more left q)) (p.moments.before t left le since);
-      })
+      leaves_compose start now new (LeavesPrefix rules Z H start.sent (items ++ more)) (LeavesPrefix rules Z (H ++ p.entries) now.sent more)
+      (leaves_map start now (LeavesPrefix rules Z H start.sent items) (LeavesPrefix rules Z H start.sent (items ++ more)) (λ left q. more_items H start items more left q) p.moments)
       later
       (λ left q. leaves_behind rules Z H p.entries start now p.steps (items ++ more) more [] left p.lawful
       (ap (λ l. l ++ more) (sym p.taken) ∙ ap (λ l. entry_items p.entries ++ l) (sym (append-nil more))) p.issued p.told p.prescribes q)
@@ -189,18 +186,12 @@ module _ {I M : Type 0} (rules : Rules I) (view : M → MachineView I) (says : L
   -- the moments of a run are those of one with more items
   pub moments_of : (H : List (Entry I)) (items more all : List I) (start now : BoardView) (engine : Engine M I) (before after : Option (List ℕ)) → Runs rules view says Z H items start now engine before after → items ++ more ≡ all
       → LeavesOnly start now (LeavesPrefix rules Z H start.sent all)
-  moments_of H items more all start now engine before after p is = record {
-    later = p.moments.later;
-    each = λ left since. subst (λ i. LeavesPrefix rules Z H start.sent i left) is (more_items H start items more left (p.moments.each left since));
-    before = λ t left le since. ⊎_elim inl (λ q. inr (subst (λ i. LeavesPrefix rules Z H start.sent i left) is (more_items H start items more left q))) (p.moments.before t left le since);
-  }
+  moments_of H items more all start now engine before after p is =
+      leaves_map start now (LeavesPrefix rules Z H start.sent items) (LeavesPrefix rules Z H start.sent all) (λ left q. subst (λ i. LeavesPrefix rules Z H start.sent i left) is (more_items H start items more left q)) p.moments
 
   pub moments_after : (H : List (Entry I)) (items more rest all : List I) (start now new : BoardView) (engine : Engine M I) (before after : Option (List ℕ)) (p : Runs rules view says Z H items start now engine before after)
       → LeavesOnly now new (LeavesPrefix rules Z (H ++ p.entries) now.sent more) → items ++ (more ++ rest) ≡ all → LeavesOnly start new (LeavesPrefix rules Z H start.sent all)
   moments_after H items more rest all start now new engine before after p later is =
-      let m = moments_behind H items more start now new engine before after p later in
-      let e : (items ++ more) ++ rest ≡ all = append_assoc items more rest ∙ is in record {
-        later = m.later;
-        each = λ left since. subst (λ i. LeavesPrefix rules Z H start.sent i left) e (more_items H start (items ++ more) rest left (m.each left since));
-        before = λ t left le since. ⊎_elim inl (λ q. inr (subst (λ i. LeavesPrefix rules Z H start.sent i left) e (more_items H start (items ++ more) rest left q))) (m.before t left le since);
-      }
+      leaves_map start new (LeavesPrefix rules Z H start.sent (items ++ more)) (LeavesPrefix rules Z H start.sent all)
+      (λ left q. subst (λ i. LeavesPrefix rules Z H start.sent i left) (append_assoc items more rest ∙ is) (more_items H start (items ++ more) rest left q))
+      (moments_behind H items more start now new engine before after p later)

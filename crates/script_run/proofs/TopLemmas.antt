@@ -3,7 +3,7 @@ use Rattle.std.proofs.Common.{◌≡◌, ◌⊎◌, inl, inr, ⊎_elim, ℕ, ◌
 use Rattle.std.specs.Prelude.{IsErrOf, IsSome}
 use Rattle.std.proofs.lemmas.List.{append-nil, append_cancel_left}
 use Rattle.board_core.specs.declared.step.Told.{Told}
-use Rattle.board_core.specs.Board.{Only, SyncsThen, BoardView, CrashState, LeftNow, IsSound, LeavesOnly, SyncsFirst, NeverSynced, steps_of, tolds_of}
+use Rattle.board_core.specs.Board.{Only, BoardView, CrashState, LeftNow, IsSound, LeavesOnly, SyncsFirst, NeverSynced, steps_of, tolds_of}
 use Rattle.pef_journal.specs.Image as image
 use Rattle.pef_engine.specs.declared.entry.Entry.{Entry}
 use Rattle.pef_engine.specs.declared.entry.Entry.TheVariants.{Item, Outcome}
@@ -12,6 +12,7 @@ use Rattle.pef_engine.specs.Rules.{Rules, LawfulFrom, Lawful, Stands}
 use Rattle.pef_engine.specs.MachineView.{MachineView, Agrees}
 use Rattle.pef_engine.specs.CrashFree.{crash_free_run, LeavesPrefix, entry_items, entry_tolds, IsPrefixOf}
 use Rattle.pef_engine.specs.Engine.{Holds}
+use Rattle.pef_journal.proofs.Moments.{syncs_map, syncs_then}
 use Rattle.pef_engine.proofs.Compose.{run_goes_on, run_more}
 use Rattle.pef_engine.proofs.Prefixes.{run_item, run_outcome}
 use Rattle.pef_engine.proofs.Stored.{images_stand}
@@ -29,16 +30,6 @@ use Rattle.script_run.specs.Playing.{IsReported, AnswersOther, Plays, Performs, 
 use Rattle.script_run.proofs.RunLemmas.{more_items}
 use Rattle.script_run.proofs.PlayLemmas.{none_of_other}
 
--- a crash in what comes behind the opening
-pub syncs_then : (old mid new : BoardView) (P Q R : CrashState → Type 0) → SyncsFirst old mid P → LeavesOnly mid new Q → ((left : CrashState) → P left → R left) → ((left : CrashState) → Q left → R left) → SyncsThen old new R
-syncs_then old mid new P Q R first later p q = record {
-  synced = first.synced;
-  after_start = first.after_start;
-  by_now = omega (arith, first.by_now, later.later);
-  until = λ c since. ⊎_elim (λ m. ⊎_elim inl (λ s. inr (p c (first.since c s))) (first.until c m)) (λ h. inr (q c h)) (later.before old.moment c (omega (arith, first.after_start, first.by_now)) since);
-  since = λ c since. ⊎_elim (λ s. p c (first.since c s)) (q c) (later.before first.synced c first.by_now since);
-}
-
 module _ {I M : Type 0} (rules : Rules I) (view : M → MachineView I) (says : List ℕ → List (Entry I) → Entry I → List ℕ) (Z : List ℕ) (H : List (Entry I)) where
   same_start : (items : List I) (old mid : BoardView) (left : CrashState) → mid.sent ≡ old.sent → LeavesPrefix rules Z H mid.sent items left → LeavesPrefix rules Z H old.sent items left
   same_start items old mid left sent here = subst (λ s. LeavesPrefix rules Z H s items left) sent here
@@ -47,10 +38,10 @@ module _ {I M : Type 0} (rules : Rules I) (view : M → MachineView I) (says : L
   at_start : (items : List I) (old : BoardView) → Stands rules Z H old.octets → Only old.octets old.images → (c : CrashState) → LeftNow old c → LeavesPrefix rules Z H old.sent items c
   at_start items old stands only c now = leaves_start rules Z H old items c (record { issued = now.issued; told = now.told }) (subst (Stands rules Z H) (sym (only c.image now.image)) stands)
 
-  in_whole_call : (items : List I) (old new : BoardView) → Stands rules Z H old.octets → (NeverSynced old new ⊎ SyncsThen old new (LeavesPrefix rules Z H old.sent items))
+  in_whole_call : (items : List I) (old new : BoardView) → Stands rules Z H old.octets → (NeverSynced old new ⊎ SyncsFirst old new (LeavesPrefix rules Z H old.sent items))
       → Only old.octets old.images → (c : CrashState) → new.left_since old.moment c → LeavesPrefix rules Z H old.sent items c
   in_whole_call items old new stands (inl never) only c since = at_start items old stands only c (never.until c since)
-  in_whole_call items old new stands (inr synced) only c since = ⊎_elim (at_start items old stands only c) (λ p. p) (synced.until c since)
+  in_whole_call items old new stands (inr synced) only c since = ⊎_elim (at_start items old stands only c) (synced.since c) (synced.until c since)
 
   -- the headline, from the opening and the calls after it
   pub run_keeps : (items : List I) (old mid new : BoardView) → Stands rules Z H old.octets → SyncsFirst old mid (LeavesPrefix rules Z H old.sent []) → mid.sent ≡ old.sent → LeavesOnly mid new (LeavesPrefix rules Z H mid.sent items) → IsSound new → IsTrue new.tells
@@ -62,7 +53,7 @@ module _ {I M : Type 0} (rules : Rules I) (view : M → MachineView I) (says : L
         (sound.counts_now tells mid.moment (ReturnLeft new) later.later (record { image = sound.is_image tells; issued = refl; told = refl })));
   }
     where
-      moments_then : SyncsThen old new (LeavesPrefix rules Z H old.sent items)
+      moments_then : SyncsFirst old new (LeavesPrefix rules Z H old.sent items)
       moments_then = syncs_then old mid new (LeavesPrefix rules Z H old.sent []) (LeavesPrefix rules Z H mid.sent items) (LeavesPrefix rules Z H old.sent items) first later
           (λ left p. more_items rules view says Z H old [] items left p) (λ left q. same_start items old mid left sent q)
 
@@ -81,16 +72,8 @@ module _ {I M : Type 0} (rules : Rules I) (view : M → MachineView I) (says : L
     returned = leaves_start rules Z H old items (ReturnLeft new) (record { issued = ap steps_of sent; told = ap tolds_of sent }) (subst (Stands rules Z H) (sym octets) stands);
   }
     where
-      along : NeverSynced old new ⊎ SyncsThen old new (LeavesPrefix rules Z H old.sent items)
-      along = ⊎_elim inl
-          (λ s. inr (record {
-            synced = s.synced;
-            after_start = s.after_start;
-            by_now = s.by_now;
-            until = λ c since. ⊎_elim inl (λ later. inr (more_items rules view says Z H old [] items c (s.since c later))) (s.until c since);
-            since = λ c since. more_items rules view says Z H old [] items c (s.since c since);
-          }))
-          moments
+      along : NeverSynced old new ⊎ SyncsFirst old new (LeavesPrefix rules Z H old.sent items)
+      along = ⊎_elim inl (λ s. inr (syncs_map old new (LeavesPrefix rules Z H old.sent []) (LeavesPrefix rules Z H old.sent items) (λ c p. more_items rules view says Z H old [] items c p) s)) moments
 
   -- all items were taken, and reported
   pub run_takes : (items : List I) (old mid new : BoardView) (engine : Engine M I) (before after : Option (List ℕ)) → mid.sent ≡ old.sent → (r : Runs rules view says Z H items mid new engine before after) → RunTakes rules says Z H items old new before after []

@@ -2,7 +2,7 @@
 use Rattle.std.specs.Prelude.{◌≡◌, ◌≢◌, ◌⊎◌, ℕ, List, [], ◌∷◌, ◌++◌, length, Option, Some, None, IsSome, IfSome, IsTrue}
 use Rattle.board_core.specs.declared.step.Told.{Told}
 use Rattle.board_core.specs.Causes.{Rose}
-use Rattle.board_core.specs.Board.{Only, SyncsThen, BoardView, CrashState, NeverSynced, steps_of, tolds_of}
+use Rattle.board_core.specs.Board.{Only, SyncsFirst, BoardView, CrashState, NeverSynced, steps_of, tolds_of}
 use Rattle.pef_engine.specs.declared.entry.Entry.{Entry}
 use Rattle.pef_engine.specs.Rules.{Rules, LawfulFrom, Lawful, Stands, StandsForNone}
 use Rattle.pef_engine.specs.MachineView.{MachineView}
@@ -22,7 +22,7 @@ ReturnLeft v = record { image = v.octets; issued = steps_of v.sent; told = tolds
 -- with the steps that it prescribes. Where that sync has not returned, what a read gives is such a prefix. Where all of the file was
 -- on the disk at the start, as it is behind a crash, each crash of the call leaves such a prefix.
 pub record RunKeeps {I : Type 0} (rules : Rules I) (Z : List ℕ) (H : List (Entry I)) (items : List I) (old new : BoardView) : Type 0 where
-  pub moments : NeverSynced old new ⊎ SyncsThen old new (LeavesPrefix rules Z H old.sent items)
+  pub moments : NeverSynced old new ⊎ SyncsFirst old new (LeavesPrefix rules Z H old.sent items)
   pub returned : LeavesPrefix rules Z H old.sent items (ReturnLeft new)
   pub whole_call : Only old.octets old.images → (c : CrashState) → new.left_since old.moment c → LeavesPrefix rules Z H old.sent items c
 

@@ -28,7 +28,7 @@ returns-in-Err-clause-any_moment g c = λ tells Z H holds.
     let at_w = at_end_along rules.kind Z (map rules.encode H) v w c.args.self.now.journal (issues.octets tells_w) (λ i. (issues.images tells_w i).0) holds.stored in
     let append = subst (λ (p : List ℕ). LeavesOnly w x (λ left. SameSteps w left × StandsForEither rules.kind Z (map rules.encode H) p left.image)) c.encode_entry-payload.ensures
     (c.append.ensures.any_moment tells rules.kind Z (map rules.encode H) at_w) in
-    settle_moments rules Z H v w x c.in-Some.step c.issue-told.result due (g.met.B.Board.sound c.args.board.now) tells_v tells_w issues (images_stand _ _ _ v c.args.self.now.journal holds.stored) append
+    settle_moments rules Z H v w x c.in-Some.step c.issue-told.result due (g.met.B.Board.sound c.args.board.now) (g.met.B.Board.sound c.issue-told.new.self) tells_v tells_w issues (images_stand _ _ _ v c.args.self.now.journal holds.stored) append
 
 pub returns-clause-any_moment : goal.returns-clause-any_moment
 returns-clause-any_moment g c = λ tells Z H holds.
@@ -43,7 +43,7 @@ returns-clause-any_moment g c = λ tells Z H holds.
     let at_w = at_end_along rules.kind Z (map rules.encode H) v w c.args.self.now.journal (issues.octets tells_w) (λ i. (issues.images tells_w i).0) holds.stored in
     let append = subst (λ (p : List ℕ). LeavesOnly w x (λ left. SameSteps w left × StandsForEither rules.kind Z (map rules.encode H) p left.image)) c.encode_entry-payload.ensures
     (c.append.ensures.any_moment tells rules.kind Z (map rules.encode H) at_w) in
-    settle_moments rules Z H v w x c.in-Some.step c.issue-told.result due (g.met.B.Board.sound c.args.board.now) tells_v tells_w issues (images_stand _ _ _ v c.args.self.now.journal holds.stored) append
+    settle_moments rules Z H v w x c.in-Some.step c.issue-told.result due (g.met.B.Board.sound c.args.board.now) (g.met.B.Board.sound c.issue-told.new.self) tells_v tells_w issues (images_stand _ _ _ v c.args.self.now.journal holds.stored) append
 
 pub returns-clause-settled : goal.returns-clause-settled
 returns-clause-settled g c = λ tells Z H holds.
