@@ -1,11 +1,11 @@
 #!/usr/bin/env bash
 # How fast `run` stores entries, beside a plain C loop that makes as many synced appends, and how fast it opens a state file.
 # Outside the merge gate. It builds no Rattle: it takes crates/pef_cli/out/pef_cli, which ./demo at the top proves and builds.
-# The two take turns, and the least of five times counts. Times are of whole processes, but of the C loop alone; entries are counted by
-# the report's lines, less the last.
-# usage: run.sh [DISK_ENTRIES] [MEMORY_ENTRIES]      DISK is the folder for the files on the disk, or else they lie in this repository
+# The two take turns in rounds, short ones on the disk, whose pace swings; the medians of the rounds count, and the median of their
+# ratios. Times are of whole processes, but of the C loop alone; entries are counted by the report's lines, less the last.
+# usage: run.sh [DISK_ENTRIES] [MEMORY_ENTRIES]      so many in a round; DISK names the folder on the disk, else it is this repository
 set -eu
-on_disk=${1:-6000}
+on_disk=${1:-300}
 in_memory=${2:-300000}
 here=$(cd "$(dirname "$0")" && pwd)
 top=$(cd "$here/../.." && pwd)
@@ -54,18 +54,18 @@ seconds() {
 
 echo 'filter = "80200010ffff04ff010400000000000000000000"' > "$memory/settings"
 
-# least: the least of the numbers of the lines
-least() {
-    sort -n | head -n 1
+# median: the one in the middle of the numbers of the lines
+median() {
+    sort -n | awk '{ line[NR] = $1 } END { print line[int((NR + 1) / 2)] }'
 }
 
-# store NAME FOLDER COUNT
+# store NAME FOLDER COUNT ROUNDS
 store() {
-    local name=$1 folder=$2 count=$3 entries
+    local name=$1 folder=$2 count=$3 rounds=$4 entries
     make_script "$memory/script" "$count"
     : > "$memory/runs"
     : > "$memory/loops"
-    for _ in 1 2 3 4 5; do
+    for _ in $(seq 1 "$rounds"); do
         rm -f "$folder/state" "$folder/appended"
         "$program" init "$folder/state" "$memory/settings" > /dev/null
         seconds "$program" run "$folder/state" "$memory/script" >> "$memory/runs"
@@ -73,20 +73,21 @@ store() {
         [ "$(tail -n 1 "$memory/out")" = "ok $entries" ]
         "$memory/appends" "$folder/appended" "$entries" >> "$memory/loops"
     done
-    awk -v name="$name" -v n="$entries" -v t="$(least < "$memory/runs")" -v c="$(least < "$memory/loops")" 'BEGIN {
-        printf "%-10s %7d entries   run %6.2f s %9.0f a second   C loop %6.2f s %9.0f a second   ratio %.2f\n", name, n, t, n / t, c, n / c, c / t
+    awk -v name="$name" -v rounds="$rounds" -v n="$entries" -v t="$(median < "$memory/runs")" -v c="$(median < "$memory/loops")" \
+        -v ratio="$(paste "$memory/loops" "$memory/runs" | awk '{ print $1 / $2 }' | median)" 'BEGIN {
+        printf "%-10s %3d rounds of %6d entries   run %8.0f a second   C loop %8.0f a second   ratio %.2f\n", name, rounds, n, n / t, n / c, ratio
     }'
 }
 
-store "on disk" "$disk" "$on_disk"
-store "in memory" "$memory" "$in_memory"
+store "on disk" "$disk" "$on_disk" 25
+store "in memory" "$memory" "$in_memory" 9
 
 # opening NAME OCTETS SAME: each call opens the file, finds its script closed, and stores nothing
 printf 'script 00000000 0\nend\n' > "$memory/closed"
 opening() {
     local entries took
     entries=$(make_state "$memory/opened" "$2" "$3")
-    took=$(for _ in 1 2 3 4 5; do seconds "$program" run "$memory/opened" "$memory/closed"; done | least)
+    took=$(for _ in 1 2 3 4 5; do seconds "$program" run "$memory/opened" "$memory/closed"; done | median)
     [ "$(cat "$memory/out")" = "ok 0" ]
     awk -v name="$1" -v n="$entries" -v t="$took" 'BEGIN { printf "%-22s %7d entries   %.4f s %9.0f a second\n", name, n, t, n / t }'
 }
