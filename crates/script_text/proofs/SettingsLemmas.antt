@@ -9,14 +9,11 @@ use Rattle.hex.specs.declared.error.FromHexError.{FromHexError}
 use Rattle.script_text.specs.Lines.{without_last}
 use Rattle.script_text.specs.Whole.{text_limit}
 use Rattle.script_text.proofs.LastOctet.{without_last-push, without_last-other, without_last-is}
-use Rattle.script_text.proofs.Spelling.{decodes_pairs}
+use Rattle.script_text.proofs.Spelling.{decodes_pairs, same_octets}
 use Rattle.script_text.specs.Settings.{settings_octets, settings_line, SpellsSettings, quoted, settings_with, settings_of_line, settings_of}
 
 quoted_line : (digits : List ℕ) → quoted (settings_line digits) ≡ digits
 quoted_line digits = without_last-push 34 digits
-
-same_octets : (one other : List ℕ) → bytes_eq one other ≡ true → one ≡ other
-same_octets one other h = let d : Decides true (one ≡ other) = subst (λ b. Decides b (one ≡ other)) h (bytes_eq-Decides one other) in d.0 refl
 
 same_test : (one : List ℕ) → bytes_eq one one ≡ true
 same_test one = by (bytes_eq one one) (bytes_eq-Decides one one)

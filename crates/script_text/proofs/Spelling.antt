@@ -43,7 +43,7 @@ unfolding joined
 joined_words [] = refl
 joined_words (b ∷ line) = join_octet b line (joined_words line) (eqb_tells b 32)
 
-same_octets : (one other : List ℕ) → bytes_eq one other ≡ true → one ≡ other
+pub same_octets : (one other : List ℕ) → bytes_eq one other ≡ true → one ≡ other
 same_octets one other h = let d : Decides true (one ≡ other) = subst (λ b. Decides b (one ≡ other)) h (bytes_eq-Decides one other) in d.0 refl
 
 -- which words have a form
