@@ -128,6 +128,7 @@ module _ {I M : Type 0} (rules : Rules I) (view : M → MachineView I) (says : L
         next = q.next;
         tolds = entry_tolds K;
         told = q.runs.told ∙ ap (λ s. tolds_of s ++ entry_tolds K) sent;
+        answered = refl;
         more = next.0;
         is_prefix = (next.1.0, append_assoc K (q.next ∷ []) next.1.0 ∙ ap (λ l. K ++ l) next.1.1 ∙ sym whole);
         stands = subst (λ (l : List (List ℕ)). image.Stands rules.kind Z l new.octets) (append-nil (map rules.encode (H ++ K))) q.runs.holds.stored.at.stands;

@@ -43,12 +43,14 @@ pub record RunIsWhole {I : Type 0} (rules : Rules I) (says : List ℕ → List (
   pub takes : RunTakes rules says Z H items old new before after (ok_line (length items))
   pub idle : rules.pending Z (H ++ crash_free_run rules Z H items takes.tolds) ≡ None
 
--- the run stopped at K, behind which the next entry of the run without a crash has no room
+-- The run stopped at K, behind which the next entry of the run without a crash has no room. All that was told is stored: no step is
+-- issued whose outcome has no room.
 pub record IsFullAt {I M : Type 0} (rules : Rules I) (view : M → MachineView I) (Z : List ℕ) (H : List (Entry I)) (items : List I) (old new : BoardView) : Type 0 where
   pub entries : List (Entry I)
   pub next : Entry I
   pub tolds : List Told
   pub told : tolds_of new.sent ≡ tolds_of old.sent ++ tolds
+  pub answered : tolds ≡ entry_tolds entries
   pub more : List Told
   pub is_prefix : IsPrefixOf (entries ++ next ∷ []) (crash_free_run rules Z H items (tolds ++ more))
   pub stands : Stands rules Z (H ++ entries) new.octets
