@@ -16,9 +16,9 @@ use Rattle.script_run.specs.declared.stop.Stop.{Stop}
 use Rattle.script_run.specs.declared.stop.Stop.TheVariants.{Unformatted, Line, Unfinished, Input, Disk, Output, Full, Memory}
 use Rattle.script_run.specs.Items.{IsOther, items_of_text}
 use Rattle.script_run.specs.Report.{report_from, says, ok_line, bad_line_line, unfinished_line}
-use Rattle.script_run.specs.Top.{RunTakes, RunIsWhole, RunStops, IsFullAt, RunAnswers, RunCall}
+use Rattle.script_run.specs.Top.{RunTakes, RunIsWhole, RunStops, IsFullAt, WritesNothing, RunAnswers, RunCall}
 use Rattle.script_run.specs.Status.{IsPartOf, Finishes, IsOneOf, last_line, status_of}
-use Rattle.script_run.specs.Room.{HasNoRoomBehind, LacksRoom, IsTooMuch, HasNoLimit}
+use Rattle.script_run.specs.Room.{HasNoRoomBehind, LacksRoom, IsTooMuch, HasLimit, HasNoLimit}
 use Rattle.script_run.specs.Playing.{Performs, AnswersNone}
 use Rattle.script_run.proofs.Lacks.{lacks_none}
 
@@ -231,7 +231,7 @@ status_ok mid after w1 w2 n status (inl ended) = inl ended.0
 status_ok mid after w1 w2 n status (inr ended) = inr (ended.0, ended.2)
 
 -- where the next entry was too much, it lacks room
-full_lacks : {I M : Type 0} (rules : Rules I) (view : M → MachineView I) (Z : List ℕ) (H : List (Entry I)) (all : List I) (old new : BoardView) → IsFullAt rules view Z H all old new ⊎ ((machine : M) × (item : I) × (view machine).over item)
+full_lacks : {I M : Type 0} (rules : Rules I) (view : M → MachineView I) (Z : List ℕ) (H : List (Entry I)) (all : List I) (old new : BoardView) → IsFullAt rules view Z H all old new ⊎ HasLimit view
     → HasNoLimit view → (tolds : List Told) × LacksRoom rules Z H all tolds
 full_lacks rules view Z H all old new (inr over) limit = absurd (limit over.0 over.1 over.2)
 full_lacks {I} {M} rules view Z H all old new (inl f) limit = (f.tolds ++ f.more, record { entries = f.entries; next = f.next; is_prefix = f.is_prefix; no_room = of f.next f.too_much })
@@ -245,7 +245,7 @@ module _ {I M : Type 0} (rules : Rules I) (view : M → MachineView I) (scripts 
   pub run_call : (end : Result ℕ Stop)
       → (IsTrue new.tells → (Z : List ℕ) (H : List (Entry I)) (text : List ℕ) → Lawful rules Z H → Stands rules Z H old.octets → source ≡ Some text → Performs rules view (says rules scripts) scripts Z H text old new before mid end)
       → Finishes mid after w1 w2 end status → (IsErrOf end Unformatted → IsTrue new.tells → StandsForNone rules old.octets)
-      → (IsTrue new.tells → StandsForNone rules old.octets → AnswersNone end × (new.octets ≡ old.octets) × (new.sent ≡ old.sent))
+      → (IsTrue new.tells → StandsForNone rules old.octets → AnswersNone view end × (new.octets ≡ old.octets) × (new.sent ≡ old.sent) × WritesNothing old new)
       → (IsErrOf end Memory → IsTrue rules.takes_memory ⊎ (IsTrue new.tells → (new.octets ≡ old.octets) × (new.sent ≡ old.sent)))
       → (IsErrOf end Disk → Rose old.disk_faults new.disk_faults) → (IsErrOf end Output → Rose w0 w1) → (IsErrOf end Input → Rose r0 r1)
       → RunCall rules view scripts old new source r0 r1 before after w0 w2 status
@@ -281,7 +281,7 @@ module _ {I M : Type 0} (rules : Rules I) (view : M → MachineView I) (scripts 
         answers = λ tells Z H text lawful stands told. run_answers rules view scripts Z H text old new before mid after w0 w1 w2 later status (Err Unformatted) (performs tells Z H text lawful stands told) ended (λ u. unformatted u tells Z H lawful stands);
         statuses = inr (inl is);
         unformatted = λ s. unformatted refl;
-        is_unformatted = λ tells none. let u = nothing tells none in (inl is, u.1, u.2);
+        is_unformatted = λ tells none. let u = nothing tells none in (inl (inl is), u.1, u.2, u.3);
         input = λ e. absurd (omega (arith, e, is));
         disk = λ e. absurd (omega (arith, e, is));
         output = λ e. absurd (omega (arith, e, is));
@@ -333,7 +333,7 @@ module _ {I M : Type 0} (rules : Rules I) (view : M → MachineView I) (scripts 
         answers = λ tells Z H text lawful stands told. run_answers rules view scripts Z H text old new before mid after w0 w1 w2 later status (Err Disk) (performs tells Z H text lawful stands told) ended (λ u. unformatted u tells Z H lawful stands);
         statuses = inr (inr (inr (inr (inr (inl is)))));
         unformatted = λ e. absurd (omega (arith, e, is));
-        is_unformatted = λ tells none. let u = nothing tells none in (inr (inl is), u.1, u.2);
+        is_unformatted = λ tells none. let u = nothing tells none in (inl (inr (inl is)), u.1, u.2, u.3);
         input = λ e. absurd (omega (arith, e, is));
         disk = λ s. disk refl;
         output = λ e. absurd (omega (arith, e, is));
@@ -359,7 +359,7 @@ module _ {I M : Type 0} (rules : Rules I) (view : M → MachineView I) (scripts 
         answers = λ tells Z H text lawful stands told. run_answers rules view scripts Z H text old new before mid after w0 w1 w2 later status (Err Full) (performs tells Z H text lawful stands told) ended (λ u. unformatted u tells Z H lawful stands);
         statuses = inr (inr (inr (inr (inr (inr (inr (inl is)))))));
         unformatted = λ e. absurd (omega (arith, e, is));
-        is_unformatted = λ tells none. let u = nothing tells none in (inr (inr (inl is)), u.1, u.2);
+        is_unformatted = λ tells none. let u = nothing tells none in (inr (is, u.0), u.1, u.2, u.3);
         input = λ e. absurd (omega (arith, e, is));
         disk = λ e. absurd (omega (arith, e, is));
         output = λ e. absurd (omega (arith, e, is));
@@ -372,7 +372,7 @@ module _ {I M : Type 0} (rules : Rules I) (view : M → MachineView I) (scripts 
         answers = λ tells Z H text lawful stands told. run_answers rules view scripts Z H text old new before mid after w0 w1 w2 later status (Err Memory) (performs tells Z H text lawful stands told) ended (λ u. unformatted u tells Z H lawful stands);
         statuses = inr (inr (inr (inr (inr (inr (inr (inr (inl is))))))));
         unformatted = λ e. absurd (omega (arith, e, is));
-        is_unformatted = λ tells none. let u = nothing tells none in (inr (inr (inr (inl is))), u.1, u.2);
+        is_unformatted = λ tells none. let u = nothing tells none in (inl (inr (inr (inl is))), u.1, u.2, u.3);
         input = λ e. absurd (omega (arith, e, is));
         disk = λ e. absurd (omega (arith, e, is));
         output = λ e. absurd (omega (arith, e, is));

@@ -22,7 +22,7 @@ use Rattle.script_run.specs.declared.stop.Stop.TheVariants.{Unformatted, Line, U
 use Rattle.pef_engine.specs.Scripts.{ScriptRules}
 use Rattle.script_run.specs.Items.{IsOther, items_of_text}
 use Rattle.script_run.specs.Report.{report_from}
-use Rattle.script_run.specs.Room.{HadRoom}
+use Rattle.script_run.specs.Room.{HadRoom, HasLimit}
 use Rattle.script_run.specs.Run.{Runs, StopsFull, ComesNext, RunsGiven, IsTaken, Answers}
 use Rattle.script_run.specs.Top.{IsUntouched, RunKeeps, RunTakes, ReturnLeft, IsFullAt}
 use Rattle.script_run.specs.Playing.{IsReported, AnswersOther, Plays, Performs, IsOpeningStop, AnswersNone}
@@ -137,7 +137,7 @@ module _ {I M : Type 0} (rules : Rules I) (view : M → MachineView I) (says : L
 
 module _ {I M : Type 0} (rules : Rules I) (view : M → MachineView I) (says : List ℕ → List (Entry I) → Entry I → List ℕ) (scripts : ScriptRules I) (Z : List ℕ) (H : List (Entry I)) (text : List ℕ) (old : BoardView) where
   -- the file is not opened
-  pub performs_not : (new : BoardView) (before : Option (List ℕ)) (stop : Stop) → RunKeeps rules Z H (items_of_text scripts text H) old new → IsOpeningStop stop → (stop ≡ Unformatted → ⊥) → (stop ≡ Full → (machine : M) × (item : I) × (view machine).over item) → IsUntouched old new
+  pub performs_not : (new : BoardView) (before : Option (List ℕ)) (stop : Stop) → RunKeeps rules Z H (items_of_text scripts text H) old new → IsOpeningStop stop → (stop ≡ Unformatted → ⊥) → (stop ≡ Full → HasLimit view) → IsUntouched old new
       → Performs rules view says scripts Z H text old new before before (Err stop)
   performs_not new before Unformatted keeps opening formatted over same = absurd (formatted refl)
   performs_not new before (Line number) keeps opening formatted over same = absurd opening
@@ -271,12 +271,12 @@ module _ {I M : Type 0} (rules : Rules I) (view : M → MachineView I) (says : L
       full = λ e. inl (full_at rules view says Z H (items_of_text scripts text H) old mid new engine before after sent ((plays.runs (plays.full e)).full e));
     }
 
-pub opening_none : (A : Type 0) (stop : Stop) → IsOpeningStop stop → AnswersNone {A = A} (Err stop)
-opening_none A Unformatted opening = tt
-opening_none A Disk opening = tt
-opening_none A Full opening = tt
-opening_none A Memory opening = tt
-opening_none A (Line number) opening = absurd opening
-opening_none A (Unfinished id count) opening = absurd opening
-opening_none A Input opening = absurd opening
-opening_none A Output opening = absurd opening
+pub opening_none : {I M : Type 0} (A : Type 0) (view : M → MachineView I) (stop : Stop) → IsOpeningStop stop → (stop ≡ Full → HasLimit view) → AnswersNone {A = A} view (Err stop)
+opening_none A view Unformatted opening over = tt
+opening_none A view Disk opening over = tt
+opening_none A view Full opening over = over refl
+opening_none A view Memory opening over = tt
+opening_none A view (Line number) opening over = absurd opening
+opening_none A view (Unfinished id count) opening over = absurd opening
+opening_none A view Input opening over = absurd opening
+opening_none A view Output opening over = absurd opening

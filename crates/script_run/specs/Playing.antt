@@ -15,6 +15,7 @@ use Rattle.pef_engine.specs.Scripts.{ScriptRules}
 use Rattle.script_run.specs.Items.{IsOther, items_of_text}
 use Rattle.script_run.specs.Report.{says}
 use Rattle.script_run.specs.Top.{RunKeeps, RunTakes, IsFullAt, IsUntouched}
+use Rattle.script_run.specs.Room.{HasLimit}
 use Rattle.script_run.specs.Run.{Runs, IsTaken, Answers, RunsGiven}
 
 -- what it may answer where another script is unfinished: it names that one, unless something failed before
@@ -49,17 +50,17 @@ IsReported (Err Output) = ⊥
 IsReported (Err Full) = ⊥
 IsReported (Err Memory) = ⊥
 
--- what it may answer where the file stands for no lawful history
-abbrev pub AnswersNone : {A : Type 0} → Result A Stop → Type 0
-AnswersNone (Ok x) = ⊥
-AnswersNone (Err Unformatted) = ⊤
-AnswersNone (Err (Line number)) = ⊥
-AnswersNone (Err (Unfinished id count)) = ⊥
-AnswersNone (Err Input) = ⊥
-AnswersNone (Err Disk) = ⊤
-AnswersNone (Err Output) = ⊥
-AnswersNone (Err Full) = ⊤
-AnswersNone (Err Memory) = ⊤
+-- what it may answer where the file stands for no lawful history: no room only where a machine's own limit stands against an item
+abbrev pub AnswersNone : {A I M : Type 0} → (M → MachineView I) → Result A Stop → Type 0
+AnswersNone view (Ok x) = ⊥
+AnswersNone view (Err Unformatted) = ⊤
+AnswersNone view (Err (Line number)) = ⊥
+AnswersNone view (Err (Unfinished id count)) = ⊥
+AnswersNone view (Err Input) = ⊥
+AnswersNone view (Err Disk) = ⊤
+AnswersNone view (Err Output) = ⊥
+AnswersNone view (Err Full) = HasLimit view
+AnswersNone view (Err Memory) = ⊤
 
 -- What a run over a file that stands for H does with a text: the crash-free run of the items that the text gives behind H.
 pub record Performs {I M : Type 0} (rules : Rules I) (view : M → MachineView I) (says : List ℕ → List (Entry I) → Entry I → List ℕ) (scripts : ScriptRules I) (Z : List ℕ) (H : List (Entry I)) (text : List ℕ) (old new : BoardView) (before after : Option (List ℕ)) (result : Result ℕ Stop) : Type 0 where
@@ -72,7 +73,7 @@ pub record Performs {I M : Type 0} (rules : Rules I) (view : M → MachineView I
   pub answers : (IsOther (scripts.script_of H) (said_of text) → ⊥) → Answers (bad_line (said_of text)) result
   pub refuses : IsOther (scripts.script_of H) (said_of text) → AnswersOther (scripts.script_of H) result
   pub other : (id count : ℕ) → IsErrOf result (Unfinished id count) → IsOther (scripts.script_of H) (said_of text)
-  pub full : IsErrOf result Full → IsFullAt rules view Z H (items_of_text scripts text H) old new ⊎ ((machine : M) × (item : I) × (view machine).over item)
+  pub full : IsErrOf result Full → IsFullAt rules view Z H (items_of_text scripts text H) old new ⊎ HasLimit view
 
 -- what an opening may stop with
 abbrev pub IsOpeningStop : Stop → Type 0

@@ -2,7 +2,8 @@
 use Rattle.std.specs.Prelude.{◌≡◌, ◌≢◌, ◌⊎◌, ℕ, List, [], ◌∷◌, ◌++◌, length, Option, Some, None, IsSome, IfSome, IsTrue}
 use Rattle.board_core.specs.declared.step.Told.{Told}
 use Rattle.board_core.specs.Causes.{Rose}
-use Rattle.board_core.specs.Board.{Only, SyncsThen, BoardView, CrashState, NeverSynced, steps_of, tolds_of}
+use Rattle.board_core.specs.Board.{Only, SyncsFirst, SyncsThen, BoardView, CrashState, NeverSynced, steps_of, tolds_of}
+use Rattle.pef_journal.specs.Journal.{LeavesAsRead}
 use Rattle.pef_engine.specs.declared.entry.Entry.{Entry}
 use Rattle.pef_engine.specs.Rules.{Rules, LawfulFrom, Lawful, Stands, StandsForNone}
 use Rattle.pef_engine.specs.MachineView.{MachineView}
@@ -11,7 +12,7 @@ use Rattle.script_text.specs.Script.{said_of, bad_line}
 use Rattle.pef_engine.specs.Scripts.{ScriptRules}
 use Rattle.script_run.specs.Items.{IsOther, items_of_text}
 use Rattle.script_run.specs.Report.{report_from, says, ok_line, bad_line_line, unfinished_line}
-use Rattle.script_run.specs.Room.{HadRoom, LacksRoom, IsTooMuch, HasNoLimit}
+use Rattle.script_run.specs.Room.{HadRoom, LacksRoom, IsTooMuch, HasLimit, HasNoLimit}
 use Rattle.script_run.specs.Status.{IsOneOf, IsPartOf}
 
 -- what the file stands for at the return, as a read gives it
@@ -67,6 +68,10 @@ pub record IsUntouched (old new : BoardView) : Type 0 where
   pub octets : new.octets ≡ old.octets
   pub sent : new.sent ≡ old.sent
 
+-- Nothing is written at any moment: until the first sync a crash leaves what it could before, and from then on what a read gave.
+abbrev pub WritesNothing : BoardView → BoardView → Type 0
+WritesNothing old new = NeverSynced old new ⊎ SyncsFirst old new (LeavesAsRead old)
+
 -- A run over a file that stands for the lawful history H, with this text, and its status.
 pub record RunAnswers {I M : Type 0} (rules : Rules I) (view : M → MachineView I) (scripts : ScriptRules I) (Z : List ℕ) (H : List (Entry I)) (text : List ℕ) (old new : BoardView) (before after : Option (List ℕ)) (writes_before writes_after status : ℕ) : Type 0 where
   -- at every moment the file stands for a prefix of the run without a crash, with the steps that it prescribes
@@ -85,7 +90,7 @@ pub record RunAnswers {I M : Type 0} (rules : Rules I) (view : M → MachineView
   pub untouched : (status ≡ 5) ⊎ (said_of text ≡ None) → IsUntouched old new
   pub formatted : status ≢ 3
   -- 9 exactly where the next entry of the run without a crash has no room, unless something failed before
-  pub full : status ≡ 9 → IsFullAt rules view Z H (items_of_text scripts text H) old new ⊎ ((machine : M) × (item : I) × (view machine).over item)
+  pub full : status ≡ 9 → IsFullAt rules view Z H (items_of_text scripts text H) old new ⊎ HasLimit view
   pub is_full : IsSome (said_of text) → (IsOther (scripts.script_of H) (said_of text) → ⊥) → (tolds more : List Told) → tolds_of new.sent ≡ tolds_of old.sent ++ tolds
       → LacksRoom rules Z H (items_of_text scripts text H) (tolds ++ more) → IsOneOf status (6 ∷ 7 ∷ 8 ∷ 9 ∷ 10 ∷ [])
 
@@ -100,9 +105,11 @@ pub record MayEnd {I M : Type 0} (rules : Rules I) (view : M → MachineView I) 
 pub record RunCall {I M : Type 0} (rules : Rules I) (view : M → MachineView I) (scripts : ScriptRules I) (old new : BoardView) (source : Option (List ℕ)) (reads_before reads_after : ℕ) (before after : Option (List ℕ)) (writes_before writes_after status : ℕ) : Type 0 where
   pub answers : IsTrue new.tells → (Z : List ℕ) (H : List (Entry I)) (text : List ℕ) → Lawful rules Z H → Stands rules Z H old.octets → source ≡ Some text → RunAnswers rules view scripts Z H text old new before after writes_before writes_after status
   pub statuses : IsOneOf status (0 ∷ 3 ∷ 4 ∷ 5 ∷ 6 ∷ 7 ∷ 8 ∷ 9 ∷ 10 ∷ [])
-  -- 3 exactly where the file stands for no lawful history, unless opening it fails; then nothing is written to it and nothing issued
+  -- 3 exactly where the file stands for no lawful history, unless opening it fails; then nothing is written to it at any moment, and
+  -- nothing issued
   pub unformatted : status ≡ 3 → IsTrue new.tells → StandsForNone rules old.octets
-  pub is_unformatted : IsTrue new.tells → StandsForNone rules old.octets → IsOneOf status (3 ∷ 7 ∷ 9 ∷ 10 ∷ []) × (new.octets ≡ old.octets) × (new.sent ≡ old.sent)
+  pub is_unformatted : IsTrue new.tells → StandsForNone rules old.octets → (IsOneOf status (3 ∷ 7 ∷ 10 ∷ []) ⊎ ((status ≡ 9) × HasLimit view))
+      × (new.octets ≡ old.octets) × (new.sent ≡ old.sent) × WritesNothing old new
   -- 6, 7 and 8 only where a count rose
   pub input : status ≡ 6 → Rose reads_before reads_after
   pub disk : status ≡ 7 → Rose old.disk_faults new.disk_faults
