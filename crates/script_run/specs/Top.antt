@@ -13,7 +13,8 @@ use Rattle.pef_engine.specs.Scripts.{ScriptRules}
 use Rattle.script_run.specs.Items.{IsOther, items_of_text}
 use Rattle.script_run.specs.Report.{report_from, says, ok_line, bad_line_line, unfinished_line}
 use Rattle.script_run.specs.Room.{HadRoom, LacksRoom, IsTooMuch, HasLimit, HasNoLimit}
-use Rattle.script_run.specs.Status.{IsOneOf, IsPartOf}
+use Rattle.script_run.specs.declared.stop.Stop.TheVariants.{Unformatted}
+use Rattle.script_run.specs.Status.{IsOneOf, IsPartOf, last_line}
 
 -- what the file stands for at the return, as a read gives it
 abbrev pub ReturnLeft : BoardView → CrashState
@@ -110,6 +111,8 @@ pub record RunCall {I M : Type 0} (rules : Rules I) (view : M → MachineView I)
   pub unformatted : status ≡ 3 → IsTrue new.tells → StandsForNone rules old.octets
   pub is_unformatted : IsTrue new.tells → StandsForNone rules old.octets → (IsOneOf status (3 ∷ 7 ∷ 10 ∷ []) ⊎ ((status ≡ 9) × HasLimit view))
       × (new.octets ≡ old.octets) × (new.sent ≡ old.sent) × WritesNothing old new
+  -- at 3 the last line alone is written, or part of it where the sink failed
+  pub says_unformatted : status ≡ 3 → (text : List ℕ) → before ≡ Some text → (part : List ℕ) × (after ≡ Some (text ++ part)) × IsPartOf part (last_line Unformatted) writes_before writes_after
   -- 6, 7 and 8 only where a count rose
   pub input : status ≡ 6 → Rose reads_before reads_after
   pub disk : status ≡ 7 → Rose old.disk_faults new.disk_faults
