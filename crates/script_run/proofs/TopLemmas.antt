@@ -144,9 +144,9 @@ module _ {I M : Type 0} (rules : Rules I) (view : M → MachineView I) (says : L
   performs_not new before (Unfinished id count) keeps opening formatted over same = absurd opening
   performs_not new before Input keeps opening formatted over same = absurd opening
   performs_not new before Output keeps opening formatted over same = absurd opening
-  performs_not new before Disk keeps opening formatted over same = record { keeps = keeps; takes = λ r. absurd r; idle = λ said taken. absurd taken; number = tt; refused = λ id count e. same; headless = λ none. same; answers = λ not. tt; refuses = λ o. tt; other = λ id count e. absurd (cc e); full = λ e. absurd (cc e) }
-  performs_not new before Memory keeps opening formatted over same = record { keeps = keeps; takes = λ r. absurd r; idle = λ said taken. absurd taken; number = tt; refused = λ id count e. same; headless = λ none. same; answers = λ not. tt; refuses = λ o. tt; other = λ id count e. absurd (cc e); full = λ e. absurd (cc e) }
-  performs_not new before Full keeps opening formatted over same = record { keeps = keeps; takes = λ r. absurd r; idle = λ said taken. absurd taken; number = tt; refused = λ id count e. same; headless = λ none. same; answers = λ not. tt; refuses = λ o. tt; other = λ id count e. absurd (cc e); full = λ e. inr (over refl) }
+  performs_not new before Disk keeps opening formatted over same = record { keeps = keeps; takes = λ r. absurd r; idle = λ said taken. absurd taken; number = tt; refused = λ id count e. same; headless = λ none. (same, tt); answers = λ not. tt; refuses = λ o. tt; other = λ id count e. absurd (cc e); full = λ e. absurd (cc e) }
+  performs_not new before Memory keeps opening formatted over same = record { keeps = keeps; takes = λ r. absurd r; idle = λ said taken. absurd taken; number = tt; refused = λ id count e. same; headless = λ none. (same, tt); answers = λ not. tt; refuses = λ o. tt; other = λ id count e. absurd (cc e); full = λ e. absurd (cc e) }
+  performs_not new before Full keeps opening formatted over same = record { keeps = keeps; takes = λ r. absurd r; idle = λ said taken. absurd taken; number = tt; refused = λ id count e. same; headless = λ none. (same, over refl); answers = λ not. tt; refuses = λ o. over refl; other = λ id count e. absurd (cc e); full = λ e. inr (over refl) }
 
   -- the file is opened, and the script is run
   module _ (mid new : BoardView) (engine : Engine M I) (before after : Option (List ℕ)) (agrees : Agrees rules (view engine.machine)) (stands : Stands rules Z H old.octets) (first : SyncsFirst old mid (LeavesPrefix rules Z H old.sent [])) (sent : mid.sent ≡ old.sent) (sound : IsSound new) (tells : IsTrue new.tells) where
@@ -163,7 +163,7 @@ module _ {I M : Type 0} (rules : Rules I) (view : M → MachineView I) (says : L
           idle = λ said taken. run_idle rules view says Z H (items_of_text scripts text H) old mid new engine before after sent r (idle_now (idle said taken) (H ++ r.entries) r.holds);
           number = q.number;
           refused = refused;
-          headless = headless;
+          headless = λ none. (headless none, plays.headless none);
           answers = λ not. (plays.runs not).answers;
           refuses = λ o. (plays.refuses o).0;
           other = λ id count e. absurd (cc e);
@@ -177,7 +177,7 @@ module _ {I M : Type 0} (rules : Rules I) (view : M → MachineView I) (says : L
           idle = λ said taken. run_idle rules view says Z H (items_of_text scripts text H) old mid new engine before after sent r (idle_now (idle said taken) (H ++ r.entries) r.holds);
           number = tt;
           refused = refused;
-          headless = headless;
+          headless = λ none. (headless none, plays.headless none);
           answers = λ not. (plays.runs not).answers;
           refuses = λ o. (plays.refuses o).0;
           other = λ id count e. absurd (cc e);
@@ -192,7 +192,7 @@ module _ {I M : Type 0} (rules : Rules I) (view : M → MachineView I) (says : L
           idle = λ said taken. absurd taken;
           number = tt;
           refused = refused;
-          headless = headless;
+          headless = λ none. (headless none, plays.headless none);
           answers = λ not. (plays.runs not).answers;
           refuses = λ o. (plays.refuses o).0;
           other = λ i c e. o;
@@ -204,7 +204,7 @@ module _ {I M : Type 0} (rules : Rules I) (view : M → MachineView I) (says : L
       idle = λ said taken. absurd taken;
       number = tt;
       refused = refused;
-      headless = headless;
+      headless = λ none. (headless none, plays.headless none);
       answers = λ not. (plays.runs not).answers;
       refuses = λ o. (plays.refuses o).0;
       other = λ id count e. absurd (cc e);
@@ -216,7 +216,7 @@ module _ {I M : Type 0} (rules : Rules I) (view : M → MachineView I) (says : L
       idle = λ said taken. absurd taken;
       number = tt;
       refused = refused;
-      headless = headless;
+      headless = λ none. (headless none, plays.headless none);
       answers = λ not. (plays.runs not).answers;
       refuses = λ o. (plays.refuses o).0;
       other = λ id count e. absurd (cc e);
@@ -228,7 +228,7 @@ module _ {I M : Type 0} (rules : Rules I) (view : M → MachineView I) (says : L
       idle = λ said taken. absurd taken;
       number = tt;
       refused = refused;
-      headless = headless;
+      headless = λ none. (headless none, plays.headless none);
       answers = λ not. (plays.runs not).answers;
       refuses = λ o. (plays.refuses o).0;
       other = λ id count e. absurd (cc e);
@@ -240,7 +240,7 @@ module _ {I M : Type 0} (rules : Rules I) (view : M → MachineView I) (says : L
       idle = λ said taken. absurd taken;
       number = tt;
       refused = refused;
-      headless = headless;
+      headless = λ none. (headless none, plays.headless none);
       answers = λ not. (plays.runs not).answers;
       refuses = λ o. (plays.refuses o).0;
       other = λ id count e. absurd (cc e);
@@ -252,7 +252,7 @@ module _ {I M : Type 0} (rules : Rules I) (view : M → MachineView I) (says : L
       idle = λ said taken. absurd taken;
       number = tt;
       refused = refused;
-      headless = headless;
+      headless = λ none. (headless none, plays.headless none);
       answers = λ not. (plays.runs not).answers;
       refuses = λ o. (plays.refuses o).0;
       other = λ id count e. absurd (cc e);
@@ -264,7 +264,7 @@ module _ {I M : Type 0} (rules : Rules I) (view : M → MachineView I) (says : L
       idle = λ said taken. absurd taken;
       number = tt;
       refused = refused;
-      headless = headless;
+      headless = λ none. (headless none, plays.headless none);
       answers = λ not. (plays.runs not).answers;
       refuses = λ o. (plays.refuses o).0;
       other = λ id count e. absurd (cc e);

@@ -86,7 +86,9 @@ pub record RunAnswers {I M : Type 0} (rules : Rules I) (view : M → MachineView
   pub is_bad : (IsOther (scripts.script_of H) (said_of text) → ⊥) → IsSome (bad_line (said_of text)) → IsOneOf status (4 ∷ 6 ∷ 7 ∷ 8 ∷ 9 ∷ 10 ∷ [])
   pub other : status ≡ 5 → IsOther (scripts.script_of H) (said_of text) × ((id : ℕ) × (count : ℕ) × IfSome (scripts.script_of H) (λ s. (s.id ≡ id) × (s.count ≡ count))
       × RunStops rules (says rules scripts) Z H (items_of_text scripts text H) old new before after writes_before writes_after (unfinished_line id count))
-  pub is_other : IsOther (scripts.script_of H) (said_of text) → IsOneOf status (5 ∷ 6 ∷ 7 ∷ 9 ∷ 10 ∷ [])
+  pub is_other : IsOther (scripts.script_of H) (said_of text) → IsOneOf status (5 ∷ 6 ∷ 7 ∷ 10 ∷ []) ⊎ ((status ≡ 9) × HasLimit view)
+  -- where line 1 is no head the answer is 4, unless something failed before
+  pub headless : said_of text ≡ None → IsOneOf status (4 ∷ 6 ∷ 7 ∷ 10 ∷ []) ⊎ ((status ≡ 9) × HasLimit view)
   -- where another script is unfinished, or line 1 is no head, nothing is written and nothing issued
   pub untouched : (status ≡ 5) ⊎ (said_of text ≡ None) → IsUntouched old new
   pub formatted : status ≢ 3
