@@ -8,6 +8,7 @@ use Rattle.pef_journal.specs.Image.{IsFormatted}
 use Rattle.script_text.specs.Settings.{settings_of}
 use Rattle.pef_cli.specs.declared.init_fault.InitFault.{InitFault}
 use Rattle.pef_cli.specs.declared.init_fault.InitFault.TheVariants.{Disk, Formatted, Input, Settings, Memory}
+use Rattle.script_run.specs.Top.{WritesNothing}
 use Rattle.pef_cli.specs.Init.{status_of, GivesNone, KeepsMoments, Inits}
 use Rattle.pef_cli.specs.Output.{last_line}
 use Rattle.pef_cli.proofs.Written.{wrote}
@@ -44,7 +45,7 @@ same_fault a b e = ap (fault_in a) e
 pub refusal : {T : Type 0} (old new : BoardView) (source : Option (List ℕ)) (reads_before reads_after : ℕ) (before after : Option (List ℕ)) (writes_before writes_after : ℕ)
     (fault : InitFault) (written : Result (Unit {0}) SinkFailed)
     → (IsTrue new.tells → KeepsMoments source old new)
-    → (IsTrue new.tells → fault ≢ Disk → new.octets ≡ old.octets)
+    → (IsTrue new.tells → fault ≢ Disk → (new.octets ≡ old.octets) × WritesNothing old new)
     → (IsErrOf {T = T} (Err fault) Formatted → IsTrue new.tells → IsFormatted old.octets)
     → (IsTrue new.tells → IsFormatted old.octets → IsErrOf {T = T} (Err fault) Formatted ⊎ IsErrOf {T = T} (Err fault) Disk)
     → (IsErrOf {T = T} (Err fault) Settings → GivesNone source)
@@ -76,6 +77,7 @@ refusal {T = T} old new source reads_before reads_after before after writes_befo
   complete = λ tells isnt text settings told good. ⊎_elim (λ e. inl (inr (inl e))) (⊎_elim (λ r. inr (inl r)) (λ d. inr (inr (inl d))))
       (good_text reads_before reads_after old new source fault (λ e. isnt (formatted (ap Err e) tells)) (λ e. refused (ap Err e)) (λ e. input (ap Err e)) (λ e. disk (ap Err e)) text settings told good);
   tells = run.tells;
+  goes_on = run.goes_on;
   disk_later = run.disk_faults;
   reads_later = later;
   writes_later = cause.later;

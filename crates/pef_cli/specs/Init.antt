@@ -9,6 +9,7 @@ use Rattle.script_text.specs.declared.whole.TextFault.TheVariants.{Source, Memor
 use Rattle.pef_cli.specs.declared.init_fault.InitFault.{InitFault}
 use Rattle.pef_cli.specs.declared.init_fault.InitFault.TheVariants.{Disk, Formatted, Input, Settings, Memory}
 use Rattle.script_run.specs.Status.{IsOneOf}
+use Rattle.script_run.specs.Top.{WritesNothing}
 use Rattle.pef_cli.specs.Output.{Says}
 
 -- the kind of a controller's state file
@@ -66,8 +67,8 @@ pub record Inits (old new : BoardView) (source : Option (List ℕ)) (reads_befor
   -- at any moment of the call
   pub moments : IsTrue new.tells → KeepsMoments source old new
   pub issues_nothing : IsTrue new.tells → new.sent ≡ old.sent
-  -- at a refusal, and where a fault came before the first write, the file is as before
-  pub untouched : IsOneOf status (4 ∷ 6 ∷ 10 ∷ 11 ∷ []) → IsTrue new.tells → new.octets ≡ old.octets
+  -- at a refusal, and where a fault came before the first write, nothing is written to the file at any moment
+  pub untouched : IsOneOf status (4 ∷ 6 ∷ 10 ∷ 11 ∷ []) → IsTrue new.tells → (new.octets ≡ old.octets) × WritesNothing old new
   pub says : Says before after writes_before writes_after status
   -- each status has its cause
   pub statuses : IsOneOf status (0 ∷ 4 ∷ 6 ∷ 7 ∷ 8 ∷ 10 ∷ 11 ∷ [])
@@ -82,8 +83,9 @@ pub record Inits (old new : BoardView) (source : Option (List ℕ)) (reads_befor
   -- where the file isn't formatted, the text is good and nothing fails, it ends with 0 or for want of memory
   pub complete : IsTrue new.tells → (IsFormatted old.octets → ⊥) → (text settings : List ℕ) → source ≡ Some text → settings_of text ≡ Some settings →
       IsOneOf status (0 ∷ 10 ∷ []) ⊎ (Rose reads_before reads_after ⊎ (Rose old.disk_faults new.disk_faults ⊎ Rose writes_before writes_after))
-  -- the board ceases to tell only where it was told, and no count falls
+  -- a board that tells its content at the end told it at the start, and one that told it at the start goes on to; no count falls
   pub tells : IsTrue new.tells → IsTrue old.tells
+  pub goes_on : IsTrue old.tells → IsTrue new.tells
   pub disk_later : old.disk_faults ≤ new.disk_faults
   pub reads_later : reads_before ≤ reads_after
   pub writes_later : writes_before ≤ writes_after

@@ -3,6 +3,7 @@ ghost use Rattle.std.specs.Prelude.{◌≡◌, ◌≢◌, ◌⊎◌, ◌≤◌, 
 ghost use Rattle.board_core.specs.Causes.{Rose};
 ghost use Rattle.board_core.specs.Board.{IsFileRun};
 ghost use Rattle.pef_journal.specs.Image.{IsFormatted};
+ghost use Rattle.script_run.specs.Top.{WritesNothing};
 ghost use Rattle.pef_cli.specs.Init.{Gives, GivesNone, IsMade, KeepsMoments, Inits};
 
 use crate::init_fault::InitFault;
@@ -41,7 +42,8 @@ pub fn init<B: Board, S: Source, K: Sink>(
 fn make<B: Board, S: Source>(alloc: Global, board: &mut B, source: &mut S) -> Result<(), InitFault>
     ensures made { IsTrue (B.view board.new).tells → OnOk result (IsMade (S.left source.old) (B.view board.old) (B.view board.new)) }
     ensures moments { IsTrue (B.view board.new).tells → KeepsMoments (S.left source.old) (B.view board.old) (B.view board.new) }
-    ensures untouched { IsTrue (B.view board.new).tells → IfErr result (λ fault. fault ≢ InitFault.Disk → (B.view board.new).octets ≡ (B.view board.old).octets) }
+    ensures untouched { IsTrue (B.view board.new).tells → IfErr result (λ fault. fault ≢ InitFault.Disk →
+        ((B.view board.new).octets ≡ (B.view board.old).octets) × WritesNothing (B.view board.old) (B.view board.new)) }
     ensures formatted { IsErrOf result InitFault.Formatted → IsTrue (B.view board.new).tells → IsFormatted (B.view board.old).octets }
     ensures is_formatted { IsTrue (B.view board.new).tells → IsFormatted (B.view board.old).octets → IsErrOf result InitFault.Formatted ⊎ IsErrOf result InitFault.Disk }
     ensures refused { IsErrOf result InitFault.Settings → GivesNone (S.left source.old) }

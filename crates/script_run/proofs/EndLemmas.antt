@@ -16,11 +16,15 @@ use Rattle.script_run.specs.declared.stop.Stop.{Stop}
 use Rattle.script_run.specs.declared.stop.Stop.TheVariants.{Unformatted, Line, Unfinished, Input, Disk, Output, Full, Memory}
 use Rattle.script_run.specs.Items.{IsOther, items_of_text}
 use Rattle.script_run.specs.Report.{report_from, says, ok_line, bad_line_line, unfinished_line}
-use Rattle.script_run.specs.Top.{RunTakes, RunIsWhole, RunStops, IsFullAt, RunAnswers, RunCall}
+use Rattle.script_run.specs.Top.{RunTakes, RunIsWhole, RunStops, IsFullAt, WritesNothing, RunAnswers, RunCall}
 use Rattle.script_run.specs.Status.{IsPartOf, Finishes, IsOneOf, last_line, status_of}
-use Rattle.script_run.specs.Room.{HasNoRoomBehind, LacksRoom, IsTooMuch, HasNoLimit}
+use Rattle.script_run.specs.Room.{HasNoRoomBehind, LacksRoom, IsTooMuch, HasLimit, HasNoLimit}
 use Rattle.script_run.specs.Playing.{Performs, AnswersNone}
 use Rattle.script_run.proofs.Lacks.{lacks_none}
+
+-- a part of a last line, counted from an earlier write on
+part_later : (w0 w1 w2 : ℕ) → w0 ≤ w1 → (last : List ℕ) (after : Option (List ℕ)) (text : List ℕ) → (part : List ℕ) × (after ≡ Some (text ++ part)) × IsPartOf part last w1 w2 → (part : List ℕ) × (after ≡ Some (text ++ part)) × IsPartOf part last w0 w2
+part_later w0 w1 w2 later last after text w = (w.0, w.1, (w.2.0, ⊎_elim inl (λ rose. inr (omega (arith, later, rose))) w.2.1))
 
 module _ {I : Type 0} (rules : Rules I) (scripts : ScriptRules I) (Z : List ℕ) (H : List (Entry I)) (items : List I) (old new : BoardView) where
   -- part of a last line behind the report
@@ -47,9 +51,9 @@ module _ {I : Type 0} (rules : Rules I) (scripts : ScriptRules I) (Z : List ℕ)
   }
   stops_on before mid after w0 w1 w2 last later t wrote (inr told) =
       let report = report_from (says rules scripts) Z H (crash_free_run rules Z H items t.tolds) in
-      let w = wrote (told.0 ++ (report ++ [])) (t.written told.0 told.1) in record {
+      let w = part_later w0 w1 w2 later last after (told.0 ++ (report ++ [])) (wrote (told.0 ++ (report ++ [])) (t.written told.0 told.1)) in record {
         part = w.0;
-        is_part = (w.2.0, ⊎_elim inl (λ rose. inr (rose_later w0 w1 w2 later rose)) w.2.1);
+        is_part = w.2;
         takes = record {
           tolds = t.tolds;
           told = t.told;
@@ -62,9 +66,6 @@ module _ {I : Type 0} (rules : Rules I) (scripts : ScriptRules I) (Z : List ℕ)
         };
       }
     where
-      rose_later : (a b d : ℕ) → a ≤ b → Rose b d → Rose a d
-      rose_later a b d le rose = omega (arith, le, rose)
-
       same_text : (a b : List ℕ) → Some a ≡ Some b → a ≡ b
       same_text a b e = cc
 
@@ -97,7 +98,8 @@ module _ {I M : Type 0} (rules : Rules I) (view : M → MachineView I) (scripts 
         is_bad = λ not some. absurd (none_some (bad_line (said_of text)) (p.answers not) some);
         other = λ e. absurd (omega (arith, e, is));
         is_other = λ o. absurd (p.refuses o);
-        untouched = λ why. ⊎_elim (λ e. absurd (omega (arith, e, is))) p.headless why;
+        headless = λ none. absurd ((p.headless none).1);
+        untouched = λ why. ⊎_elim (λ e. absurd (omega (arith, e, is))) (λ none. (p.headless none).0) why;
         formatted = λ e. absurd (omega (arith, e, is));
         full = λ e. absurd (omega (arith, e, is));
         is_full = λ said not' tolds more told lacks. absurd (lacks_none rules Z (says rules scripts) H items old new before mid [] (p.takes tt) (p.idle said tt) tolds more told lacks);
@@ -111,7 +113,8 @@ module _ {I M : Type 0} (rules : Rules I) (view : M → MachineView I) (scripts 
         is_bad = λ not some. absurd (none_some (bad_line (said_of text)) (p.answers not) some);
         other = λ e. absurd (omega (arith, e, is));
         is_other = λ o. absurd (p.refuses o);
-        untouched = λ why. ⊎_elim (λ e. absurd (omega (arith, e, is))) p.headless why;
+        headless = λ none. absurd ((p.headless none).1);
+        untouched = λ why. ⊎_elim (λ e. absurd (omega (arith, e, is))) (λ none. (p.headless none).0) why;
         formatted = λ e. absurd (omega (arith, e, is));
         full = λ e. absurd (omega (arith, e, is));
         is_full = λ said not' tolds more told lacks. inr (inr (inl is));
@@ -128,7 +131,8 @@ module _ {I M : Type 0} (rules : Rules I) (view : M → MachineView I) (scripts 
         is_bad = λ not some. inl is;
         other = λ e. absurd (omega (arith, e, is));
         is_other = λ o. absurd (p.refuses o);
-        untouched = λ why. ⊎_elim (λ e. absurd (omega (arith, e, is))) p.headless why;
+        headless = λ none. inl (inl is);
+        untouched = λ why. ⊎_elim (λ e. absurd (omega (arith, e, is))) (λ none. (p.headless none).0) why;
         formatted = λ e. absurd (omega (arith, e, is));
         full = λ e. absurd (omega (arith, e, is));
         is_full = λ said not' tolds more told lacks. absurd (lacks_none rules Z (says rules scripts) H items old new before mid [] (p.takes tt) (p.idle said tt) tolds more told lacks);
@@ -143,8 +147,9 @@ module _ {I M : Type 0} (rules : Rules I) (view : M → MachineView I) (scripts 
         settled = λ e. absurd (omega (arith, e, is));
         is_bad = λ not some. absurd (not o);
         other = λ e. (o, (id, count, p.refuses o, stops_on rules scripts Z H items old new before mid after w0 w1 w2 (unfinished_line id count) later (p.takes tt) ended.2 (told_or_not before)));
-        is_other = λ o. inl is;
-        untouched = λ why. ⊎_elim (λ e. p.refused id count refl) p.headless why;
+        is_other = λ o. inl (inl is);
+        headless = λ none. absurd ((p.headless none).1);
+        untouched = λ why. ⊎_elim (λ e. p.refused id count refl) (λ none. (p.headless none).0) why;
         formatted = λ e. absurd (omega (arith, e, is));
         full = λ e. absurd (omega (arith, e, is));
         is_full = λ said not' tolds more told lacks. absurd (not' o);
@@ -158,8 +163,9 @@ module _ {I M : Type 0} (rules : Rules I) (view : M → MachineView I) (scripts 
         settled = λ e. absurd (omega (arith, e, is));
         is_bad = λ not some. inr (inl is);
         other = λ e. absurd (omega (arith, e, is));
-        is_other = λ o. inr (inl is);
-        untouched = λ why. ⊎_elim (λ e. absurd (omega (arith, e, is))) p.headless why;
+        is_other = λ o. inl (inr (inl is));
+        headless = λ none. inl (inr (inl is));
+        untouched = λ why. ⊎_elim (λ e. absurd (omega (arith, e, is))) (λ none. (p.headless none).0) why;
         formatted = λ e. absurd (omega (arith, e, is));
         full = λ e. absurd (omega (arith, e, is));
         is_full = λ said not' tolds more told lacks. inl is;
@@ -173,8 +179,9 @@ module _ {I M : Type 0} (rules : Rules I) (view : M → MachineView I) (scripts 
         settled = λ e. absurd (omega (arith, e, is));
         is_bad = λ not some. inr (inr (inl is));
         other = λ e. absurd (omega (arith, e, is));
-        is_other = λ o. inr (inr (inl is));
-        untouched = λ why. ⊎_elim (λ e. absurd (omega (arith, e, is))) p.headless why;
+        is_other = λ o. inl (inr (inr (inl is)));
+        headless = λ none. inl (inr (inr (inl is)));
+        untouched = λ why. ⊎_elim (λ e. absurd (omega (arith, e, is))) (λ none. (p.headless none).0) why;
         formatted = λ e. absurd (omega (arith, e, is));
         full = λ e. absurd (omega (arith, e, is));
         is_full = λ said not' tolds more told lacks. inr (inl is);
@@ -189,7 +196,8 @@ module _ {I M : Type 0} (rules : Rules I) (view : M → MachineView I) (scripts 
         is_bad = λ not some. inr (inr (inr (inl is)));
         other = λ e. absurd (omega (arith, e, is));
         is_other = λ o. absurd (p.refuses o);
-        untouched = λ why. ⊎_elim (λ e. absurd (omega (arith, e, is))) p.headless why;
+        headless = λ none. absurd ((p.headless none).1);
+        untouched = λ why. ⊎_elim (λ e. absurd (omega (arith, e, is))) (λ none. (p.headless none).0) why;
         formatted = λ e. absurd (omega (arith, e, is));
         full = λ e. absurd (omega (arith, e, is));
         is_full = λ said not' tolds more told lacks. inr (inr (inl is));
@@ -203,8 +211,9 @@ module _ {I M : Type 0} (rules : Rules I) (view : M → MachineView I) (scripts 
         settled = λ e. absurd (omega (arith, e, is));
         is_bad = λ not some. inr (inr (inr (inr (inl is))));
         other = λ e. absurd (omega (arith, e, is));
-        is_other = λ o. inr (inr (inr (inl is)));
-        untouched = λ why. ⊎_elim (λ e. absurd (omega (arith, e, is))) p.headless why;
+        is_other = λ o. inr (is, p.refuses o);
+        headless = λ none. inr (is, (p.headless none).1);
+        untouched = λ why. ⊎_elim (λ e. absurd (omega (arith, e, is))) (λ none. (p.headless none).0) why;
         formatted = λ e. absurd (omega (arith, e, is));
         full = λ e. p.full refl;
         is_full = λ said not' tolds more told lacks. inr (inr (inr (inl is)));
@@ -218,8 +227,9 @@ module _ {I M : Type 0} (rules : Rules I) (view : M → MachineView I) (scripts 
         settled = λ e. absurd (omega (arith, e, is));
         is_bad = λ not some. inr (inr (inr (inr (inr (inl is)))));
         other = λ e. absurd (omega (arith, e, is));
-        is_other = λ o. inr (inr (inr (inr (inl is))));
-        untouched = λ why. ⊎_elim (λ e. absurd (omega (arith, e, is))) p.headless why;
+        is_other = λ o. inl (inr (inr (inr (inl is))));
+        headless = λ none. inl (inr (inr (inr (inl is))));
+        untouched = λ why. ⊎_elim (λ e. absurd (omega (arith, e, is))) (λ none. (p.headless none).0) why;
         formatted = λ e. absurd (omega (arith, e, is));
         full = λ e. absurd (omega (arith, e, is));
         is_full = λ said not' tolds more told lacks. inr (inr (inr (inr (inl is))));
@@ -231,7 +241,7 @@ status_ok mid after w1 w2 n status (inl ended) = inl ended.0
 status_ok mid after w1 w2 n status (inr ended) = inr (ended.0, ended.2)
 
 -- where the next entry was too much, it lacks room
-full_lacks : {I M : Type 0} (rules : Rules I) (view : M → MachineView I) (Z : List ℕ) (H : List (Entry I)) (all : List I) (old new : BoardView) → IsFullAt rules view Z H all old new ⊎ ((machine : M) × (item : I) × (view machine).over item)
+full_lacks : {I M : Type 0} (rules : Rules I) (view : M → MachineView I) (Z : List ℕ) (H : List (Entry I)) (all : List I) (old new : BoardView) → IsFullAt rules view Z H all old new ⊎ HasLimit view
     → HasNoLimit view → (tolds : List Told) × LacksRoom rules Z H all tolds
 full_lacks rules view Z H all old new (inr over) limit = absurd (limit over.0 over.1 over.2)
 full_lacks {I} {M} rules view Z H all old new (inl f) limit = (f.tolds ++ f.more, record { entries = f.entries; next = f.next; is_prefix = f.is_prefix; no_room = of f.next f.too_much })
@@ -245,16 +255,18 @@ module _ {I M : Type 0} (rules : Rules I) (view : M → MachineView I) (scripts 
   pub run_call : (end : Result ℕ Stop)
       → (IsTrue new.tells → (Z : List ℕ) (H : List (Entry I)) (text : List ℕ) → Lawful rules Z H → Stands rules Z H old.octets → source ≡ Some text → Performs rules view (says rules scripts) scripts Z H text old new before mid end)
       → Finishes mid after w1 w2 end status → (IsErrOf end Unformatted → IsTrue new.tells → StandsForNone rules old.octets)
-      → (IsTrue new.tells → StandsForNone rules old.octets → AnswersNone end × (new.octets ≡ old.octets) × (new.sent ≡ old.sent))
+      → (IsTrue new.tells → StandsForNone rules old.octets → AnswersNone view end × (new.octets ≡ old.octets) × (new.sent ≡ old.sent) × WritesNothing old new)
+      → (IsErrOf end Unformatted → mid ≡ before)
       → (IsErrOf end Memory → IsTrue rules.takes_memory ⊎ (IsTrue new.tells → (new.octets ≡ old.octets) × (new.sent ≡ old.sent)))
       → (IsErrOf end Disk → Rose old.disk_faults new.disk_faults) → (IsErrOf end Output → Rose w0 w1) → (IsErrOf end Input → Rose r0 r1)
       → RunCall rules view scripts old new source r0 r1 before after w0 w2 status
-  run_call (Ok n) performs (inl e) unformatted nothing memory disk output input =
+  run_call (Ok n) performs (inl e) unformatted nothing quiet memory disk output input =
       let is = e.0 in
       record {
         answers = λ tells Z H text lawful stands told. run_answers rules view scripts Z H text old new before mid after w0 w1 w2 later status (Ok n) (performs tells Z H text lawful stands told) (inl e) (λ u. unformatted u tells Z H lawful stands);
         statuses = inl is;
         unformatted = λ e. absurd (omega (arith, e, is));
+        says_unformatted = λ e. absurd (omega (arith, e, is));
         is_unformatted = λ tells none. absurd ((nothing tells none).0);
         input = λ e. absurd (omega (arith, e, is));
         disk = λ e. absurd (omega (arith, e, is));
@@ -262,12 +274,13 @@ module _ {I M : Type 0} (rules : Rules I) (view : M → MachineView I) (scripts 
         memory = λ e. absurd (omega (arith, e, is));
         complete = λ tells Z H text lawful stands told may. inl (inl is);
       }
-  run_call (Ok n) performs (inr e) unformatted nothing memory disk output input =
+  run_call (Ok n) performs (inr e) unformatted nothing quiet memory disk output input =
       let is = e.0 in
       record {
         answers = λ tells Z H text lawful stands told. run_answers rules view scripts Z H text old new before mid after w0 w1 w2 later status (Ok n) (performs tells Z H text lawful stands told) (inr e) (λ u. unformatted u tells Z H lawful stands);
         statuses = inr (inr (inr (inr (inr (inr (inl is))))));
         unformatted = λ e. absurd (omega (arith, e, is));
+        says_unformatted = λ e. absurd (omega (arith, e, is));
         is_unformatted = λ tells none. absurd ((nothing tells none).0);
         input = λ e. absurd (omega (arith, e, is));
         disk = λ e. absurd (omega (arith, e, is));
@@ -275,25 +288,27 @@ module _ {I M : Type 0} (rules : Rules I) (view : M → MachineView I) (scripts 
         memory = λ e. absurd (omega (arith, e, is));
         complete = λ tells Z H text lawful stands told may. inr (inr (inr (omega (arith, later, e.2))));
       }
-  run_call (Err Unformatted) performs ended unformatted nothing memory disk output input =
+  run_call (Err Unformatted) performs ended unformatted nothing quiet memory disk output input =
       let is = ended.0 in
       record {
         answers = λ tells Z H text lawful stands told. run_answers rules view scripts Z H text old new before mid after w0 w1 w2 later status (Err Unformatted) (performs tells Z H text lawful stands told) ended (λ u. unformatted u tells Z H lawful stands);
         statuses = inr (inl is);
         unformatted = λ s. unformatted refl;
-        is_unformatted = λ tells none. let u = nothing tells none in (inl is, u.1, u.2);
+        says_unformatted = λ s text is_before. part_later w0 w1 w2 later (last_line Unformatted) after text (ended.2 text (quiet refl ∙ is_before));
+        is_unformatted = λ tells none. let u = nothing tells none in (inl (inl is), u.1, u.2, u.3);
         input = λ e. absurd (omega (arith, e, is));
         disk = λ e. absurd (omega (arith, e, is));
         output = λ e. absurd (omega (arith, e, is));
         memory = λ e. absurd (omega (arith, e, is));
         complete = λ tells Z H text lawful stands told may. absurd (unformatted refl tells Z H lawful stands);
       }
-  run_call (Err (Line number)) performs ended unformatted nothing memory disk output input =
+  run_call (Err (Line number)) performs ended unformatted nothing quiet memory disk output input =
       let is = ended.0 in
       record {
         answers = λ tells Z H text lawful stands told. run_answers rules view scripts Z H text old new before mid after w0 w1 w2 later status (Err (Line number)) (performs tells Z H text lawful stands told) ended (λ u. unformatted u tells Z H lawful stands);
         statuses = inr (inr (inl is));
         unformatted = λ e. absurd (omega (arith, e, is));
+        says_unformatted = λ e. absurd (omega (arith, e, is));
         is_unformatted = λ tells none. absurd ((nothing tells none).0);
         input = λ e. absurd (omega (arith, e, is));
         disk = λ e. absurd (omega (arith, e, is));
@@ -301,12 +316,13 @@ module _ {I M : Type 0} (rules : Rules I) (view : M → MachineView I) (scripts 
         memory = λ e. absurd (omega (arith, e, is));
         complete = λ tells Z H text lawful stands told may. let p = performs tells Z H text lawful stands told in let clash : None ≡ Some number = sym may.good ∙ p.answers may.no_other in absurd (cc clash);
       }
-  run_call (Err (Unfinished id count)) performs ended unformatted nothing memory disk output input =
+  run_call (Err (Unfinished id count)) performs ended unformatted nothing quiet memory disk output input =
       let is = ended.0 in
       record {
         answers = λ tells Z H text lawful stands told. run_answers rules view scripts Z H text old new before mid after w0 w1 w2 later status (Err (Unfinished id count)) (performs tells Z H text lawful stands told) ended (λ u. unformatted u tells Z H lawful stands);
         statuses = inr (inr (inr (inl is)));
         unformatted = λ e. absurd (omega (arith, e, is));
+        says_unformatted = λ e. absurd (omega (arith, e, is));
         is_unformatted = λ tells none. absurd ((nothing tells none).0);
         input = λ e. absurd (omega (arith, e, is));
         disk = λ e. absurd (omega (arith, e, is));
@@ -314,12 +330,13 @@ module _ {I M : Type 0} (rules : Rules I) (view : M → MachineView I) (scripts 
         memory = λ e. absurd (omega (arith, e, is));
         complete = λ tells Z H text lawful stands told may. absurd (may.no_other ((performs tells Z H text lawful stands told).other id count refl));
       }
-  run_call (Err Input) performs ended unformatted nothing memory disk output input =
+  run_call (Err Input) performs ended unformatted nothing quiet memory disk output input =
       let is = ended.0 in
       record {
         answers = λ tells Z H text lawful stands told. run_answers rules view scripts Z H text old new before mid after w0 w1 w2 later status (Err Input) (performs tells Z H text lawful stands told) ended (λ u. unformatted u tells Z H lawful stands);
         statuses = inr (inr (inr (inr (inl is))));
         unformatted = λ e. absurd (omega (arith, e, is));
+        says_unformatted = λ e. absurd (omega (arith, e, is));
         is_unformatted = λ tells none. absurd ((nothing tells none).0);
         input = λ s. input refl;
         disk = λ e. absurd (omega (arith, e, is));
@@ -327,25 +344,27 @@ module _ {I M : Type 0} (rules : Rules I) (view : M → MachineView I) (scripts 
         memory = λ e. absurd (omega (arith, e, is));
         complete = λ tells Z H text lawful stands told may. inr (inl (input refl));
       }
-  run_call (Err Disk) performs ended unformatted nothing memory disk output input =
+  run_call (Err Disk) performs ended unformatted nothing quiet memory disk output input =
       let is = ended.0 in
       record {
         answers = λ tells Z H text lawful stands told. run_answers rules view scripts Z H text old new before mid after w0 w1 w2 later status (Err Disk) (performs tells Z H text lawful stands told) ended (λ u. unformatted u tells Z H lawful stands);
         statuses = inr (inr (inr (inr (inr (inl is)))));
         unformatted = λ e. absurd (omega (arith, e, is));
-        is_unformatted = λ tells none. let u = nothing tells none in (inr (inl is), u.1, u.2);
+        says_unformatted = λ e. absurd (omega (arith, e, is));
+        is_unformatted = λ tells none. let u = nothing tells none in (inl (inr (inl is)), u.1, u.2, u.3);
         input = λ e. absurd (omega (arith, e, is));
         disk = λ s. disk refl;
         output = λ e. absurd (omega (arith, e, is));
         memory = λ e. absurd (omega (arith, e, is));
         complete = λ tells Z H text lawful stands told may. inr (inr (inl (disk refl)));
       }
-  run_call (Err Output) performs ended unformatted nothing memory disk output input =
+  run_call (Err Output) performs ended unformatted nothing quiet memory disk output input =
       let is = ended.0 in
       record {
         answers = λ tells Z H text lawful stands told. run_answers rules view scripts Z H text old new before mid after w0 w1 w2 later status (Err Output) (performs tells Z H text lawful stands told) ended (λ u. unformatted u tells Z H lawful stands);
         statuses = inr (inr (inr (inr (inr (inr (inl is))))));
         unformatted = λ e. absurd (omega (arith, e, is));
+        says_unformatted = λ e. absurd (omega (arith, e, is));
         is_unformatted = λ tells none. absurd ((nothing tells none).0);
         input = λ e. absurd (omega (arith, e, is));
         disk = λ e. absurd (omega (arith, e, is));
@@ -353,26 +372,28 @@ module _ {I M : Type 0} (rules : Rules I) (view : M → MachineView I) (scripts 
         memory = λ e. absurd (omega (arith, e, is));
         complete = λ tells Z H text lawful stands told may. inr (inr (inr (omega (arith, output refl, ended.1))));
       }
-  run_call (Err Full) performs ended unformatted nothing memory disk output input =
+  run_call (Err Full) performs ended unformatted nothing quiet memory disk output input =
       let is = ended.0 in
       record {
         answers = λ tells Z H text lawful stands told. run_answers rules view scripts Z H text old new before mid after w0 w1 w2 later status (Err Full) (performs tells Z H text lawful stands told) ended (λ u. unformatted u tells Z H lawful stands);
         statuses = inr (inr (inr (inr (inr (inr (inr (inl is)))))));
         unformatted = λ e. absurd (omega (arith, e, is));
-        is_unformatted = λ tells none. let u = nothing tells none in (inr (inr (inl is)), u.1, u.2);
+        says_unformatted = λ e. absurd (omega (arith, e, is));
+        is_unformatted = λ tells none. let u = nothing tells none in (inr (is, u.0), u.1, u.2, u.3);
         input = λ e. absurd (omega (arith, e, is));
         disk = λ e. absurd (omega (arith, e, is));
         output = λ e. absurd (omega (arith, e, is));
         memory = λ e. absurd (omega (arith, e, is));
         complete = λ tells Z H text lawful stands told may. let lacks = full_lacks rules view Z H (items_of_text scripts text H) old new ((performs tells Z H text lawful stands told).full refl) may.no_limit in absurd (may.room lacks.0 lacks.1);
       }
-  run_call (Err Memory) performs ended unformatted nothing memory disk output input =
+  run_call (Err Memory) performs ended unformatted nothing quiet memory disk output input =
       let is = ended.0 in
       record {
         answers = λ tells Z H text lawful stands told. run_answers rules view scripts Z H text old new before mid after w0 w1 w2 later status (Err Memory) (performs tells Z H text lawful stands told) ended (λ u. unformatted u tells Z H lawful stands);
         statuses = inr (inr (inr (inr (inr (inr (inr (inr (inl is))))))));
         unformatted = λ e. absurd (omega (arith, e, is));
-        is_unformatted = λ tells none. let u = nothing tells none in (inr (inr (inr (inl is))), u.1, u.2);
+        says_unformatted = λ e. absurd (omega (arith, e, is));
+        is_unformatted = λ tells none. let u = nothing tells none in (inl (inr (inr (inl is))), u.1, u.2, u.3);
         input = λ e. absurd (omega (arith, e, is));
         disk = λ e. absurd (omega (arith, e, is));
         output = λ e. absurd (omega (arith, e, is));

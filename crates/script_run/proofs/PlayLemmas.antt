@@ -250,12 +250,16 @@ module _ {I M : Type 0} (rules : Rules I) (view : M → MachineView I) (says : L
         moments = r.moments;
         refuses = λ other. absurd (never (scripts.script_of H) (subst (IsOther (scripts.script_of H)) none other));
         other = λ id count e. absurd (cc e);
+        headless = λ none. tt;
         full = λ err. absurd (cc err);
       }
     where
       never : (script : Option Script) → IsOther script None → ⊥
       never None other = other
       never (Some s) other = other
+
+  no_none : (said : Said) → Some said ≡ None → ⊥
+  no_none said e = cc e
 
   start_moments : (items : List I) → LeavesOnly start start (LeavesPrefix rules Z H start.sent items)
   start_moments items =
@@ -270,6 +274,7 @@ module _ {I M : Type 0} (rules : Rules I) (view : M → MachineView I) (says : L
         moments = start_moments (items_of_text scripts text H);
         refuses = λ o. (another_named (scripts.script_of H) said.id said.count id count names, runs_start rules view says Z H start engine written sound tells holds);
         other = λ i c e. other;
+        headless = λ none. absurd (no_none said (sym is ∙ none));
         full = λ err. absurd (cc err);
       }
 
@@ -280,6 +285,7 @@ module _ {I M : Type 0} (rules : Rules I) (view : M → MachineView I) (says : L
     moments = start_moments (items_of_text scripts text H);
     refuses = λ other. (tt, runs_start rules view says Z H start engine written sound tells holds);
     other = λ id count e. absurd (cc e);
+    headless = λ none. tt;
     full = λ err. absurd (cc err);
   }
 
@@ -294,6 +300,7 @@ module _ {I M : Type 0} (rules : Rules I) (view : M → MachineView I) (says : L
         moments = q.moments;
         refuses = λ other. absurd (not_other (scripts.script_of H) said course on (subst (IsOther (scripts.script_of H)) is other));
         other = λ id count e. absurd (never id count e);
+        headless = λ none. absurd (no_none said (sym is ∙ none));
         full = λ err other. not_other (scripts.script_of H) said course on (subst (IsOther (scripts.script_of H)) is other);
       }
 

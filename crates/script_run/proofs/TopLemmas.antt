@@ -23,7 +23,7 @@ use Rattle.script_run.specs.declared.stop.Stop.TheVariants.{Unformatted, Line, U
 use Rattle.pef_engine.specs.Scripts.{ScriptRules}
 use Rattle.script_run.specs.Items.{IsOther, items_of_text}
 use Rattle.script_run.specs.Report.{report_from}
-use Rattle.script_run.specs.Room.{HadRoom}
+use Rattle.script_run.specs.Room.{HadRoom, HasLimit}
 use Rattle.script_run.specs.Run.{Runs, StopsFull, ComesNext, RunsGiven, IsTaken, Answers}
 use Rattle.script_run.specs.Top.{IsUntouched, RunKeeps, RunTakes, ReturnLeft, IsFullAt}
 use Rattle.script_run.specs.Playing.{IsReported, AnswersOther, Plays, Performs, IsOpeningStop, AnswersNone}
@@ -111,6 +111,7 @@ module _ {I M : Type 0} (rules : Rules I) (view : M → MachineView I) (says : L
         next = q.next;
         tolds = entry_tolds K;
         told = q.runs.told ∙ ap (λ s. tolds_of s ++ entry_tolds K) sent;
+        answered = refl;
         more = next.0;
         is_prefix = (next.1.0, append_assoc K (q.next ∷ []) next.1.0 ∙ ap (λ l. K ++ l) next.1.1 ∙ sym whole);
         stands = subst (λ (l : List (List ℕ)). image.Stands rules.kind Z l new.octets) (append-nil (map rules.encode (H ++ K))) q.runs.holds.stored.at.stands;
@@ -119,16 +120,16 @@ module _ {I M : Type 0} (rules : Rules I) (view : M → MachineView I) (says : L
 
 module _ {I M : Type 0} (rules : Rules I) (view : M → MachineView I) (says : List ℕ → List (Entry I) → Entry I → List ℕ) (scripts : ScriptRules I) (Z : List ℕ) (H : List (Entry I)) (text : List ℕ) (old : BoardView) where
   -- the file is not opened
-  pub performs_not : (new : BoardView) (before : Option (List ℕ)) (stop : Stop) → RunKeeps rules Z H (items_of_text scripts text H) old new → IsOpeningStop stop → (stop ≡ Unformatted → ⊥) → (stop ≡ Full → (machine : M) × (item : I) × (view machine).over item) → IsUntouched old new
+  pub performs_not : (new : BoardView) (before : Option (List ℕ)) (stop : Stop) → RunKeeps rules Z H (items_of_text scripts text H) old new → IsOpeningStop stop → (stop ≡ Unformatted → ⊥) → (stop ≡ Full → HasLimit view) → IsUntouched old new
       → Performs rules view says scripts Z H text old new before before (Err stop)
   performs_not new before Unformatted keeps opening formatted over same = absurd (formatted refl)
   performs_not new before (Line number) keeps opening formatted over same = absurd opening
   performs_not new before (Unfinished id count) keeps opening formatted over same = absurd opening
   performs_not new before Input keeps opening formatted over same = absurd opening
   performs_not new before Output keeps opening formatted over same = absurd opening
-  performs_not new before Disk keeps opening formatted over same = record { keeps = keeps; takes = λ r. absurd r; idle = λ said taken. absurd taken; number = tt; refused = λ id count e. same; headless = λ none. same; answers = λ not. tt; refuses = λ o. tt; other = λ id count e. absurd (cc e); full = λ e. absurd (cc e) }
-  performs_not new before Memory keeps opening formatted over same = record { keeps = keeps; takes = λ r. absurd r; idle = λ said taken. absurd taken; number = tt; refused = λ id count e. same; headless = λ none. same; answers = λ not. tt; refuses = λ o. tt; other = λ id count e. absurd (cc e); full = λ e. absurd (cc e) }
-  performs_not new before Full keeps opening formatted over same = record { keeps = keeps; takes = λ r. absurd r; idle = λ said taken. absurd taken; number = tt; refused = λ id count e. same; headless = λ none. same; answers = λ not. tt; refuses = λ o. tt; other = λ id count e. absurd (cc e); full = λ e. inr (over refl) }
+  performs_not new before Disk keeps opening formatted over same = record { keeps = keeps; takes = λ r. absurd r; idle = λ said taken. absurd taken; number = tt; refused = λ id count e. same; headless = λ none. (same, tt); answers = λ not. tt; refuses = λ o. tt; other = λ id count e. absurd (cc e); full = λ e. absurd (cc e) }
+  performs_not new before Memory keeps opening formatted over same = record { keeps = keeps; takes = λ r. absurd r; idle = λ said taken. absurd taken; number = tt; refused = λ id count e. same; headless = λ none. (same, tt); answers = λ not. tt; refuses = λ o. tt; other = λ id count e. absurd (cc e); full = λ e. absurd (cc e) }
+  performs_not new before Full keeps opening formatted over same = record { keeps = keeps; takes = λ r. absurd r; idle = λ said taken. absurd taken; number = tt; refused = λ id count e. same; headless = λ none. (same, over refl); answers = λ not. tt; refuses = λ o. over refl; other = λ id count e. absurd (cc e); full = λ e. inr (over refl) }
 
   -- the file is opened, and the script is run
   module _ (mid new : BoardView) (engine : Engine M I) (before after : Option (List ℕ)) (agrees : Agrees rules (view engine.machine)) (stands : Stands rules Z H old.octets) (first : SyncsFirst old mid (LeavesPrefix rules Z H old.sent [])) (sent : mid.sent ≡ old.sent) (sound : IsSound new) (tells : IsTrue new.tells) where
@@ -145,7 +146,7 @@ module _ {I M : Type 0} (rules : Rules I) (view : M → MachineView I) (says : L
           idle = λ said taken. run_idle rules view says Z H (items_of_text scripts text H) old mid new engine before after sent r (idle_now (idle said taken) (H ++ r.entries) r.holds);
           number = q.number;
           refused = refused;
-          headless = headless;
+          headless = λ none. (headless none, plays.headless none);
           answers = λ not. (plays.runs not).answers;
           refuses = λ o. (plays.refuses o).0;
           other = λ id count e. absurd (cc e);
@@ -159,7 +160,7 @@ module _ {I M : Type 0} (rules : Rules I) (view : M → MachineView I) (says : L
           idle = λ said taken. run_idle rules view says Z H (items_of_text scripts text H) old mid new engine before after sent r (idle_now (idle said taken) (H ++ r.entries) r.holds);
           number = tt;
           refused = refused;
-          headless = headless;
+          headless = λ none. (headless none, plays.headless none);
           answers = λ not. (plays.runs not).answers;
           refuses = λ o. (plays.refuses o).0;
           other = λ id count e. absurd (cc e);
@@ -174,7 +175,7 @@ module _ {I M : Type 0} (rules : Rules I) (view : M → MachineView I) (says : L
           idle = λ said taken. absurd taken;
           number = tt;
           refused = refused;
-          headless = headless;
+          headless = λ none. (headless none, plays.headless none);
           answers = λ not. (plays.runs not).answers;
           refuses = λ o. (plays.refuses o).0;
           other = λ i c e. o;
@@ -186,7 +187,7 @@ module _ {I M : Type 0} (rules : Rules I) (view : M → MachineView I) (says : L
       idle = λ said taken. absurd taken;
       number = tt;
       refused = refused;
-      headless = headless;
+      headless = λ none. (headless none, plays.headless none);
       answers = λ not. (plays.runs not).answers;
       refuses = λ o. (plays.refuses o).0;
       other = λ id count e. absurd (cc e);
@@ -198,7 +199,7 @@ module _ {I M : Type 0} (rules : Rules I) (view : M → MachineView I) (says : L
       idle = λ said taken. absurd taken;
       number = tt;
       refused = refused;
-      headless = headless;
+      headless = λ none. (headless none, plays.headless none);
       answers = λ not. (plays.runs not).answers;
       refuses = λ o. (plays.refuses o).0;
       other = λ id count e. absurd (cc e);
@@ -210,7 +211,7 @@ module _ {I M : Type 0} (rules : Rules I) (view : M → MachineView I) (says : L
       idle = λ said taken. absurd taken;
       number = tt;
       refused = refused;
-      headless = headless;
+      headless = λ none. (headless none, plays.headless none);
       answers = λ not. (plays.runs not).answers;
       refuses = λ o. (plays.refuses o).0;
       other = λ id count e. absurd (cc e);
@@ -222,7 +223,7 @@ module _ {I M : Type 0} (rules : Rules I) (view : M → MachineView I) (says : L
       idle = λ said taken. absurd taken;
       number = tt;
       refused = refused;
-      headless = headless;
+      headless = λ none. (headless none, plays.headless none);
       answers = λ not. (plays.runs not).answers;
       refuses = λ o. (plays.refuses o).0;
       other = λ id count e. absurd (cc e);
@@ -234,7 +235,7 @@ module _ {I M : Type 0} (rules : Rules I) (view : M → MachineView I) (says : L
       idle = λ said taken. absurd taken;
       number = tt;
       refused = refused;
-      headless = headless;
+      headless = λ none. (headless none, plays.headless none);
       answers = λ not. (plays.runs not).answers;
       refuses = λ o. (plays.refuses o).0;
       other = λ id count e. absurd (cc e);
@@ -246,19 +247,19 @@ module _ {I M : Type 0} (rules : Rules I) (view : M → MachineView I) (says : L
       idle = λ said taken. absurd taken;
       number = tt;
       refused = refused;
-      headless = headless;
+      headless = λ none. (headless none, plays.headless none);
       answers = λ not. (plays.runs not).answers;
       refuses = λ o. (plays.refuses o).0;
       other = λ id count e. absurd (cc e);
       full = λ e. inl (full_at rules view says Z H (items_of_text scripts text H) old mid new engine before after sent ((plays.runs (plays.full e)).full e));
     }
 
-pub opening_none : (A : Type 0) (stop : Stop) → IsOpeningStop stop → AnswersNone {A = A} (Err stop)
-opening_none A Unformatted opening = tt
-opening_none A Disk opening = tt
-opening_none A Full opening = tt
-opening_none A Memory opening = tt
-opening_none A (Line number) opening = absurd opening
-opening_none A (Unfinished id count) opening = absurd opening
-opening_none A Input opening = absurd opening
-opening_none A Output opening = absurd opening
+pub opening_none : {I M : Type 0} (A : Type 0) (view : M → MachineView I) (stop : Stop) → IsOpeningStop stop → (stop ≡ Full → HasLimit view) → AnswersNone {A = A} view (Err stop)
+opening_none A view Unformatted opening over = tt
+opening_none A view Disk opening over = tt
+opening_none A view Full opening over = over refl
+opening_none A view Memory opening over = tt
+opening_none A view (Line number) opening over = absurd opening
+opening_none A view (Unfinished id count) opening over = absurd opening
+opening_none A view Input opening over = absurd opening
+opening_none A view Output opening over = absurd opening

@@ -15,26 +15,42 @@ use Rattle.pef_engine.specs.Scripts.{ScriptRules}
 use Rattle.script_run.specs.Items.{IsOther, items_of_text}
 use Rattle.script_run.specs.Report.{says}
 use Rattle.script_run.specs.Top.{RunKeeps, RunTakes, IsFullAt, IsUntouched}
+use Rattle.script_run.specs.Room.{HasLimit}
 use Rattle.script_run.specs.Run.{Runs, IsTaken, Answers, RunsGiven}
 
--- what it may answer where another script is unfinished: it names that one, unless something failed before
-abbrev pub AnswersOther : {A : Type 0} → Option Script → Result A Stop → Type 0
-AnswersOther script (Ok x) = ⊥
-AnswersOther script (Err (Line number)) = ⊥
-AnswersOther script (Err (Unfinished id count)) = IfSome script (λ s. (s.id ≡ id) × (s.count ≡ count))
-AnswersOther script (Err Unformatted) = ⊥
-AnswersOther script (Err Input) = ⊤
-AnswersOther script (Err Disk) = ⊤
-AnswersOther script (Err Output) = ⊥
-AnswersOther script (Err Full) = ⊤
-AnswersOther script (Err Memory) = ⊤
+-- what it may answer where another script is unfinished: it names that one, unless something failed before, and there is no room only
+-- where a machine's own limit stands against an item
+abbrev pub AnswersOther : {A I M : Type 0} → (M → MachineView I) → Option Script → Result A Stop → Type 0
+AnswersOther view script (Ok x) = ⊥
+AnswersOther view script (Err (Line number)) = ⊥
+AnswersOther view script (Err (Unfinished id count)) = IfSome script (λ s. (s.id ≡ id) × (s.count ≡ count))
+AnswersOther view script (Err Unformatted) = ⊥
+AnswersOther view script (Err Input) = ⊤
+AnswersOther view script (Err Disk) = ⊤
+AnswersOther view script (Err Output) = ⊥
+AnswersOther view script (Err Full) = HasLimit view
+AnswersOther view script (Err Memory) = ⊤
+
+-- what it may answer where line 1 is no head: that it is bad, unless something failed before, and there is no room only where a
+-- machine's own limit stands against an item
+abbrev pub AnswersHeadless : {A I M : Type 0} → (M → MachineView I) → Result A Stop → Type 0
+AnswersHeadless view (Ok x) = ⊥
+AnswersHeadless view (Err (Line number)) = ⊤
+AnswersHeadless view (Err (Unfinished id count)) = ⊥
+AnswersHeadless view (Err Unformatted) = ⊥
+AnswersHeadless view (Err Input) = ⊤
+AnswersHeadless view (Err Disk) = ⊤
+AnswersHeadless view (Err Output) = ⊥
+AnswersHeadless view (Err Full) = HasLimit view
+AnswersHeadless view (Err Memory) = ⊤
 
 -- A text was run: what it gives was taken, up to its first bad line; where another script is unfinished nothing was, and that one is named.
 pub record Plays {I M : Type 0} (rules : Rules I) (view : M → MachineView I) (says : List ℕ → List (Entry I) → Entry I → List ℕ) (scripts : ScriptRules I) (Z : List ℕ) (H : List (Entry I)) (text : List ℕ) (start now : BoardView) (engine : Engine M I) (before after : Option (List ℕ)) (result : Result ℕ Stop) : Type 0 where
   pub runs : (IsOther (scripts.script_of H) (said_of text) → ⊥) → RunsGiven rules view says Z H (items_of_text scripts text H) (bad_line (said_of text)) start now engine before after result
   pub moments : LeavesOnly start now (LeavesPrefix rules Z H start.sent (items_of_text scripts text H))
-  pub refuses : IsOther (scripts.script_of H) (said_of text) → AnswersOther (scripts.script_of H) result × Runs rules view says Z H [] start now engine before after
+  pub refuses : IsOther (scripts.script_of H) (said_of text) → AnswersOther view (scripts.script_of H) result × Runs rules view says Z H [] start now engine before after
   pub other : (id count : ℕ) → result ≡ Err (Unfinished id count) → IsOther (scripts.script_of H) (said_of text)
+  pub headless : said_of text ≡ None → AnswersHeadless view result
   pub full : IsErrOf result Full → IsOther (scripts.script_of H) (said_of text) → ⊥
 
 -- it answers of the text, and all that it took was reported
@@ -49,17 +65,17 @@ IsReported (Err Output) = ⊥
 IsReported (Err Full) = ⊥
 IsReported (Err Memory) = ⊥
 
--- what it may answer where the file stands for no lawful history
-abbrev pub AnswersNone : {A : Type 0} → Result A Stop → Type 0
-AnswersNone (Ok x) = ⊥
-AnswersNone (Err Unformatted) = ⊤
-AnswersNone (Err (Line number)) = ⊥
-AnswersNone (Err (Unfinished id count)) = ⊥
-AnswersNone (Err Input) = ⊥
-AnswersNone (Err Disk) = ⊤
-AnswersNone (Err Output) = ⊥
-AnswersNone (Err Full) = ⊤
-AnswersNone (Err Memory) = ⊤
+-- what it may answer where the file stands for no lawful history: no room only where a machine's own limit stands against an item
+abbrev pub AnswersNone : {A I M : Type 0} → (M → MachineView I) → Result A Stop → Type 0
+AnswersNone view (Ok x) = ⊥
+AnswersNone view (Err Unformatted) = ⊤
+AnswersNone view (Err (Line number)) = ⊥
+AnswersNone view (Err (Unfinished id count)) = ⊥
+AnswersNone view (Err Input) = ⊥
+AnswersNone view (Err Disk) = ⊤
+AnswersNone view (Err Output) = ⊥
+AnswersNone view (Err Full) = HasLimit view
+AnswersNone view (Err Memory) = ⊤
 
 -- What a run over a file that stands for H does with a text: the crash-free run of the items that the text gives behind H.
 pub record Performs {I M : Type 0} (rules : Rules I) (view : M → MachineView I) (says : List ℕ → List (Entry I) → Entry I → List ℕ) (scripts : ScriptRules I) (Z : List ℕ) (H : List (Entry I)) (text : List ℕ) (old new : BoardView) (before after : Option (List ℕ)) (result : Result ℕ Stop) : Type 0 where
@@ -68,11 +84,11 @@ pub record Performs {I M : Type 0} (rules : Rules I) (view : M → MachineView I
   pub idle : IsSome (said_of text) → IsTaken result → (tolds : List Told) → tolds_of new.sent ≡ tolds_of old.sent ++ tolds → rules.pending Z (H ++ crash_free_run rules Z H (items_of_text scripts text H) tolds) ≡ None
   pub number : IfOk result (λ n. n ≡ length (items_of_text scripts text H))
   pub refused : (id count : ℕ) → IsErrOf result (Unfinished id count) → IsUntouched old new
-  pub headless : said_of text ≡ None → IsUntouched old new
+  pub headless : said_of text ≡ None → IsUntouched old new × AnswersHeadless view result
   pub answers : (IsOther (scripts.script_of H) (said_of text) → ⊥) → Answers (bad_line (said_of text)) result
-  pub refuses : IsOther (scripts.script_of H) (said_of text) → AnswersOther (scripts.script_of H) result
+  pub refuses : IsOther (scripts.script_of H) (said_of text) → AnswersOther view (scripts.script_of H) result
   pub other : (id count : ℕ) → IsErrOf result (Unfinished id count) → IsOther (scripts.script_of H) (said_of text)
-  pub full : IsErrOf result Full → IsFullAt rules view Z H (items_of_text scripts text H) old new ⊎ ((machine : M) × (item : I) × (view machine).over item)
+  pub full : IsErrOf result Full → IsFullAt rules view Z H (items_of_text scripts text H) old new ⊎ HasLimit view
 
 -- what an opening may stop with
 abbrev pub IsOpeningStop : Stop → Type 0

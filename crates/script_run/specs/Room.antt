@@ -31,6 +31,10 @@ pub record LacksRoom {I : Type 0} (rules : Rules I) (Z : List ℕ) (H : List (En
 abbrev pub IsTooMuch : {I M : Type 0} → Rules I → (M → MachineView I) → List ℕ → List (Entry I) → Entry I → Type 0
 IsTooMuch {I} {M} rules view Z H e = HasNoRoomBehind rules Z H e ⊎ ((machine : M) × (view machine).shows Z H × IsOver (view machine) e)
 
--- a machine of this kind has no limit of its own
+-- a machine of this kind has a limit of its own, which stands against an item
+abbrev pub HasLimit : {I M : Type 0} → (M → MachineView I) → Type 0
+HasLimit {I} {M} view = (machine : M) × (item : I) × (view machine).over item
+
+-- it has none
 abbrev pub HasNoLimit : {I M : Type 0} → (M → MachineView I) → Type 0
 HasNoLimit {I} {M} view = (machine : M) (item : I) → (view machine).over item → ⊥

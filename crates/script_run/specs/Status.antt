@@ -40,7 +40,8 @@ IsPartOf part last writes_before writes_after = IsPrefixOf part last × ((part �
 abbrev pub Finishes : Option (List ℕ) → Option (List ℕ) → ℕ → ℕ → Result ℕ Stop → ℕ → Type 0
 Finishes before after faults_before faults_after (Ok n) status =
     ((status ≡ 0) × (faults_before ≤ faults_after) × ((old : List ℕ) → before ≡ Some old → after ≡ Some (old ++ ok_line n)))
-    ⊎ ((status ≡ 8) × (faults_before ≤ faults_after) × Rose faults_before faults_after)
+    ⊎ ((status ≡ 8) × (faults_before ≤ faults_after) × Rose faults_before faults_after
+    × ((old : List ℕ) → before ≡ Some old → (part : List ℕ) × (after ≡ Some (old ++ part)) × IsPrefixOf part (ok_line n)))
 Finishes before after faults_before faults_after (Err stop) status =
     (status ≡ status_of stop) × (faults_before ≤ faults_after)
     × ((old : List ℕ) → before ≡ Some old → (part : List ℕ) × (after ≡ Some (old ++ part)) × IsPartOf part (last_line stop) faults_before faults_after)

@@ -3,6 +3,7 @@ use Rattle.std.specs.Prelude.{◌≡◌, ◌≢◌, ◌⊎◌, ℕ, List, [], �
 use Rattle.board_core.specs.declared.step.Told.{Told}
 use Rattle.board_core.specs.Causes.{Rose}
 use Rattle.board_core.specs.Board.{Only, SyncsFirst, BoardView, CrashState, NeverSynced, steps_of, tolds_of}
+use Rattle.pef_journal.specs.Journal.{LeavesAsRead}
 use Rattle.pef_engine.specs.declared.entry.Entry.{Entry}
 use Rattle.pef_engine.specs.Rules.{Rules, LawfulFrom, Lawful, Stands, StandsForNone}
 use Rattle.pef_engine.specs.MachineView.{MachineView}
@@ -11,8 +12,9 @@ use Rattle.script_text.specs.Script.{said_of, bad_line}
 use Rattle.pef_engine.specs.Scripts.{ScriptRules}
 use Rattle.script_run.specs.Items.{IsOther, items_of_text}
 use Rattle.script_run.specs.Report.{report_from, says, ok_line, bad_line_line, unfinished_line}
-use Rattle.script_run.specs.Room.{HadRoom, LacksRoom, IsTooMuch, HasNoLimit}
-use Rattle.script_run.specs.Status.{IsOneOf, IsPartOf}
+use Rattle.script_run.specs.Room.{HadRoom, LacksRoom, IsTooMuch, HasLimit, HasNoLimit}
+use Rattle.script_run.specs.declared.stop.Stop.TheVariants.{Unformatted}
+use Rattle.script_run.specs.Status.{IsOneOf, IsPartOf, last_line}
 
 -- what the file stands for at the return, as a read gives it
 abbrev pub ReturnLeft : BoardView → CrashState
@@ -43,12 +45,14 @@ pub record RunIsWhole {I : Type 0} (rules : Rules I) (says : List ℕ → List (
   pub takes : RunTakes rules says Z H items old new before after (ok_line (length items))
   pub idle : rules.pending Z (H ++ crash_free_run rules Z H items takes.tolds) ≡ None
 
--- the run stopped at K, behind which the next entry of the run without a crash has no room
+-- The run stopped at K, behind which the next entry of the run without a crash has no room. All that was told is stored: no step is
+-- issued whose outcome has no room.
 pub record IsFullAt {I M : Type 0} (rules : Rules I) (view : M → MachineView I) (Z : List ℕ) (H : List (Entry I)) (items : List I) (old new : BoardView) : Type 0 where
   pub entries : List (Entry I)
   pub next : Entry I
   pub tolds : List Told
   pub told : tolds_of new.sent ≡ tolds_of old.sent ++ tolds
+  pub answered : tolds ≡ entry_tolds entries
   pub more : List Told
   pub is_prefix : IsPrefixOf (entries ++ next ∷ []) (crash_free_run rules Z H items (tolds ++ more))
   pub stands : Stands rules Z (H ++ entries) new.octets
@@ -65,6 +69,10 @@ pub record IsUntouched (old new : BoardView) : Type 0 where
   pub octets : new.octets ≡ old.octets
   pub sent : new.sent ≡ old.sent
 
+-- Nothing is written at any moment: until the first sync a crash leaves what it could before, and from then on what a read gave.
+abbrev pub WritesNothing : BoardView → BoardView → Type 0
+WritesNothing old new = NeverSynced old new ⊎ SyncsFirst old new (LeavesAsRead old)
+
 -- A run over a file that stands for the lawful history H, with this text, and its status.
 pub record RunAnswers {I M : Type 0} (rules : Rules I) (view : M → MachineView I) (scripts : ScriptRules I) (Z : List ℕ) (H : List (Entry I)) (text : List ℕ) (old new : BoardView) (before after : Option (List ℕ)) (writes_before writes_after status : ℕ) : Type 0 where
   -- at every moment the file stands for a prefix of the run without a crash, with the steps that it prescribes
@@ -78,12 +86,14 @@ pub record RunAnswers {I M : Type 0} (rules : Rules I) (view : M → MachineView
   pub is_bad : (IsOther (scripts.script_of H) (said_of text) → ⊥) → IsSome (bad_line (said_of text)) → IsOneOf status (4 ∷ 6 ∷ 7 ∷ 8 ∷ 9 ∷ 10 ∷ [])
   pub other : status ≡ 5 → IsOther (scripts.script_of H) (said_of text) × ((id : ℕ) × (count : ℕ) × IfSome (scripts.script_of H) (λ s. (s.id ≡ id) × (s.count ≡ count))
       × RunStops rules (says rules scripts) Z H (items_of_text scripts text H) old new before after writes_before writes_after (unfinished_line id count))
-  pub is_other : IsOther (scripts.script_of H) (said_of text) → IsOneOf status (5 ∷ 6 ∷ 7 ∷ 9 ∷ 10 ∷ [])
+  pub is_other : IsOther (scripts.script_of H) (said_of text) → IsOneOf status (5 ∷ 6 ∷ 7 ∷ 10 ∷ []) ⊎ ((status ≡ 9) × HasLimit view)
+  -- where line 1 is no head the answer is 4, unless something failed before
+  pub headless : said_of text ≡ None → IsOneOf status (4 ∷ 6 ∷ 7 ∷ 10 ∷ []) ⊎ ((status ≡ 9) × HasLimit view)
   -- where another script is unfinished, or line 1 is no head, nothing is written and nothing issued
   pub untouched : (status ≡ 5) ⊎ (said_of text ≡ None) → IsUntouched old new
   pub formatted : status ≢ 3
   -- 9 exactly where the next entry of the run without a crash has no room, unless something failed before
-  pub full : status ≡ 9 → IsFullAt rules view Z H (items_of_text scripts text H) old new ⊎ ((machine : M) × (item : I) × (view machine).over item)
+  pub full : status ≡ 9 → IsFullAt rules view Z H (items_of_text scripts text H) old new ⊎ HasLimit view
   pub is_full : IsSome (said_of text) → (IsOther (scripts.script_of H) (said_of text) → ⊥) → (tolds more : List Told) → tolds_of new.sent ≡ tolds_of old.sent ++ tolds
       → LacksRoom rules Z H (items_of_text scripts text H) (tolds ++ more) → IsOneOf status (6 ∷ 7 ∷ 8 ∷ 9 ∷ 10 ∷ [])
 
@@ -98,9 +108,13 @@ pub record MayEnd {I M : Type 0} (rules : Rules I) (view : M → MachineView I) 
 pub record RunCall {I M : Type 0} (rules : Rules I) (view : M → MachineView I) (scripts : ScriptRules I) (old new : BoardView) (source : Option (List ℕ)) (reads_before reads_after : ℕ) (before after : Option (List ℕ)) (writes_before writes_after status : ℕ) : Type 0 where
   pub answers : IsTrue new.tells → (Z : List ℕ) (H : List (Entry I)) (text : List ℕ) → Lawful rules Z H → Stands rules Z H old.octets → source ≡ Some text → RunAnswers rules view scripts Z H text old new before after writes_before writes_after status
   pub statuses : IsOneOf status (0 ∷ 3 ∷ 4 ∷ 5 ∷ 6 ∷ 7 ∷ 8 ∷ 9 ∷ 10 ∷ [])
-  -- 3 exactly where the file stands for no lawful history, unless opening it fails; then nothing is written to it and nothing issued
+  -- 3 exactly where the file stands for no lawful history, unless opening it fails; then nothing is written to it at any moment, and
+  -- nothing issued
   pub unformatted : status ≡ 3 → IsTrue new.tells → StandsForNone rules old.octets
-  pub is_unformatted : IsTrue new.tells → StandsForNone rules old.octets → IsOneOf status (3 ∷ 7 ∷ 9 ∷ 10 ∷ []) × (new.octets ≡ old.octets) × (new.sent ≡ old.sent)
+  pub is_unformatted : IsTrue new.tells → StandsForNone rules old.octets → (IsOneOf status (3 ∷ 7 ∷ 10 ∷ []) ⊎ ((status ≡ 9) × HasLimit view))
+      × (new.octets ≡ old.octets) × (new.sent ≡ old.sent) × WritesNothing old new
+  -- at 3 the last line alone is written, or part of it where the sink failed
+  pub says_unformatted : status ≡ 3 → (text : List ℕ) → before ≡ Some text → (part : List ℕ) × (after ≡ Some (text ++ part)) × IsPartOf part (last_line Unformatted) writes_before writes_after
   -- 6, 7 and 8 only where a count rose
   pub input : status ≡ 6 → Rose reads_before reads_after
   pub disk : status ≡ 7 → Rose old.disk_faults new.disk_faults

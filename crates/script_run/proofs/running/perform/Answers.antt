@@ -32,7 +32,9 @@ returns-in-Err-clause-unformatted g c = λ err tells Z H lawful stands.
     formatted (err_is err)
 
 pub returns-in-Err-clause-nothing : goal.returns-in-Err-clause-nothing
-returns-in-Err-clause-nothing g c = λ tells none. (opening_none ℕ c.stop_at_opening.result c.stop_at_opening.ensures.opening, c.in-Err.ensures.octets tells, c.in-Err.ensures.run.sent tells)
+returns-in-Err-clause-nothing g c = λ tells none.
+    let over = λ (e : c.stop_at_opening.result ≡ Full). c.in-Err.ensures.full (is_err (c.stop_at_opening.ensures.full.0 e)) in
+    (opening_none ℕ g.M.Machine.view c.stop_at_opening.result c.stop_at_opening.ensures.opening over, c.in-Err.ensures.octets tells, c.in-Err.ensures.run.sent tells, c.in-Err.ensures.moments tells)
 
 pub returns-clause-performs : goal.returns-clause-performs
 returns-clause-performs g c = λ tells Z H text lawful stands left.
