@@ -155,8 +155,11 @@ module _ (past : Past) (traced : IsTraced past) (tells : Bool) (octets : List �
       later = λ t. omega arith;
       nothing_else = λ t since left le was.
           ⊎_elim inl
-          (λ more. inr (since_call left more, ⊎_elim (λ within. inl (in_flight left within))
-          (λ behind. inr (now_from_leaves (with_more past Issued sent_more) (traced_more past traced Issued sent_more front (ap (λ n. n + 1) traced.listed ∙ sym (length_push past.sent sent))) (2 * past.made + 2) (omega arith) tells octets d' i' left behind)) more))
+          (λ more. inr (
+            since_call left more,
+            ⊎_elim (λ within. inl (in_flight left within))
+                (λ behind. inr (now_from_leaves (with_more past Issued sent_more) (traced_more past traced Issued sent_more front (ap (λ n. n + 1) traced.listed ∙ sym (length_push past.sent sent))) (2 * past.made + 2) (omega arith) tells octets d' i' left behind)) more,
+          ))
           (since_more past traced Issued sent_more front since left was);
       keeps = λ t since left le was. keeps past traced Issued sent_more front since left was;
     }

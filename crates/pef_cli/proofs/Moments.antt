@@ -1,5 +1,5 @@
 -- What a crash in a call of `init` leaves.
-use Rattle.std.proofs.Common.{◌≡◌, inl, inr, ⊎_elim, ℕ, List, Option, Some, None, false, is_some, arith, ap, ◌∙◌, subst, true≢false}
+use Rattle.std.proofs.Common.{◌≡◌, inl, inr, ⊎_elim, ℕ, List, Option, Some, None, false, is_some, ap, ◌∙◌, subst, true≢false}
 use Rattle.board_core.specs.Board.{BoardView, CrashState, LeavesOnly, SyncsFirst, SameSteps, steps_of, tolds_of}
 use Rattle.pef_journal.specs.Image.{IsFormatted, IsEmptyOrUnformatted, KindIs}
 use Rattle.pef_journal.specs.Journal.{LeavesAsRead}

@@ -1,7 +1,7 @@
 -- What formatting a controller's state file does, answers and leaves.
 use Rattle.std.specs.Prelude.{◌≡◌, ◌⊎◌, ℕ, ◌≤◌, IsTrue, List, [], ◌∷◌, ◌++◌, ◌+◌, length, drop, Option, Some, None}
 use Rattle.board_core.specs.Causes.{Rose}
-use Rattle.board_core.specs.Board.{SyncsFirst, BoardView, CrashState, LeftNow, SameSteps, Only, NeverSynced}
+use Rattle.board_core.specs.Board.{SyncsFirst, BoardView, CrashState, SameSteps, Only, NeverSynced}
 use Rattle.pef_journal.specs.Image.{header, IsFormatted, Stands}
 use Rattle.script_text.specs.Settings.{settings_of}
 use Rattle.script_text.specs.declared.whole.TextFault.{TextFault}

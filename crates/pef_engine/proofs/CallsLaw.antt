@@ -1,12 +1,11 @@
 -- Any number of calls of a program are lives of its file.
-use Rattle.std.proofs.Common.{◌≡◌, ℕ, suc, List, [], ◌∷◌, ◌++◌, length, drop, map, refl, sym, ◌∙◌, ap, subst}
-use Rattle.std.proofs.lemmas.List.{append-nil, drop_at, length-map}
+use Rattle.std.proofs.Common.{◌≡◌, ℕ, suc, List, [], ◌∷◌, ◌++◌, length, drop, refl, sym, ◌∙◌, ap, subst}
+use Rattle.std.proofs.lemmas.List.{drop_at, length-map}
 use Rattle.board_core.specs.declared.step.Step.{Step}
 use Rattle.board_core.specs.declared.step.Sent.{Sent}
 use Rattle.board_core.specs.Board.{steps_of}
 use Rattle.pef_engine.specs.declared.entry.Entry.{Entry}
 use Rattle.pef_engine.specs.Rules.{Rules, LawfulFrom, Lawful}
-use Rattle.pef_engine.specs.CrashFree.{LeavesPrefix}
 use Rattle.pef_engine.specs.Lives.{Life, AreLives, steps_of_lives, last_history, IsRepeating, Call, AreCalls, steps_of_calls}
 use Rattle.pef_engine.proofs.Compose.{lawful_compose}
 use Rattle.pef_engine.proofs.LivesLaw.{lives_repeat}

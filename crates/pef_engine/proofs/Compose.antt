@@ -3,7 +3,7 @@ use Rattle.std.proofs.Common.{◌≡◌, inl, inr, ⊎_elim, ℕ, zero, suc, ◌
 use Rattle.std.proofs.lemmas.List.{append-nil}
 use Rattle.board_core.specs.declared.step.Step.{Step}
 use Rattle.board_core.specs.declared.step.Told.{Told}
-use Rattle.board_core.specs.Board.{BoardView, CrashState, LeavesOnly, steps_of, tolds_of}
+use Rattle.board_core.specs.Board.{BoardView, CrashState, steps_of, tolds_of}
 use Rattle.pef_engine.specs.declared.entry.Entry.{Entry}
 use Rattle.pef_engine.specs.declared.entry.Entry.TheVariants.{Item, Outcome}
 use Rattle.pef_engine.specs.Rules.{Rules, LawfulFrom, Stands}

@@ -1,5 +1,5 @@
 -- The last line, and what the status says.
-use Rattle.std.proofs.Common.{◌≡◌, ◌⊎◌, inl, inr, ⊎_elim, ℕ, ◌≤◌, List, [], ◌∷◌, ◌++◌, length, Option, Some, None, IsTrue, refl, sym, ◌∙◌, ap, subst, arith, append_assoc, Result, Ok, Err}
+use Rattle.std.proofs.Common.{◌≡◌, ◌⊎◌, inl, inr, ⊎_elim, ℕ, ◌≤◌, List, [], ◌++◌, length, Option, Some, None, IsTrue, refl, sym, ◌∙◌, ap, arith, append_assoc, Result, Ok, Err}
 use Rattle.std.specs.Prelude.{IsErrOf, IsSome}
 use Rattle.std.proofs.lemmas.List.{append-nil}
 use Rattle.board_core.specs.Causes.{Rose}
@@ -16,8 +16,8 @@ use Rattle.script_run.specs.declared.stop.Stop.{Stop}
 use Rattle.script_run.specs.declared.stop.Stop.TheVariants.{Unformatted, Line, Unfinished, Input, Disk, Output, Full, Memory}
 use Rattle.script_run.specs.Items.{IsOther, items_of_text}
 use Rattle.script_run.specs.Report.{report_from, says, ok_line, bad_line_line, unfinished_line}
-use Rattle.script_run.specs.Top.{RunTakes, RunIsWhole, RunStops, IsFullAt, WritesNothing, RunAnswers, RunCall}
-use Rattle.script_run.specs.Status.{IsPartOf, Finishes, IsOneOf, last_line, status_of}
+use Rattle.script_run.specs.Top.{RunTakes, RunStops, IsFullAt, WritesNothing, RunAnswers, RunCall}
+use Rattle.script_run.specs.Status.{IsPartOf, Finishes, last_line}
 use Rattle.script_run.specs.Room.{HasNoRoomBehind, LacksRoom, IsTooMuch, HasLimit, HasNoLimit}
 use Rattle.script_run.specs.Playing.{Performs, AnswersNone}
 use Rattle.script_run.proofs.Lacks.{lacks_none}

@@ -7,7 +7,7 @@ use Rattle.pef_journal.specs.Image.{header, blocks}
 use Rattle.pef_journal.proofs.Entries.{blocks-append}
 use Rattle.pef_engine.specs.declared.entry.Entry.{Entry}
 use Rattle.pef_engine.specs.Rules.{Rules}
-use Rattle.pef_engine.specs.CrashFree.{crash_free_run, crash_free_turns, crash_free_turn, entry_items, entry_tolds}
+use Rattle.pef_engine.specs.CrashFree.{crash_free_run, crash_free_turns, crash_free_turn, entry_items}
 use Rattle.pef_engine.proofs.Compose.{run_goes_on}
 use Rattle.script_run.specs.Room.{file_size, HasNoRoomBehind, HadRoom, LacksRoom}
 use Rattle.script_run.specs.Top.{RunTakes}

@@ -1,14 +1,14 @@
 -- What a machine shows after some entries, whatever a board tells.
-use Rattle.std.proofs.Common.{◌≡◌, ◌⊎◌, inl, inr, ℕ, List, [], ◌∷◌, ◌++◌, Option, Some, None, is_some, refl, sym, ◌∙◌, ap, subst, append_assoc}
+use Rattle.std.proofs.Common.{◌≡◌, List, [], ◌∷◌, ◌++◌, Option, Some, None, refl, sym, ◌∙◌, ap, subst, append_assoc}
 use Rattle.std.specs.Prelude.{IsSome}
 use Rattle.std.proofs.lemmas.List.{append-nil}
 use Rattle.pef_engine.specs.declared.entry.Entry.{Entry}
 use Rattle.pef_engine.specs.declared.entry.Entry.TheVariants.{Item, Outcome}
 use Rattle.pef_engine.specs.Rules.{Rules, Lawful}
-use Rattle.pef_engine.specs.MachineView.{MachineView, GoesOn, Agrees, KeepsAllButReady}
+use Rattle.pef_engine.specs.MachineView.{MachineView, GoesOn, Agrees}
 use Rattle.pef_engine.specs.CrashFree.{items_of, entry_items}
 use Rattle.pef_engine.proofs.Stored.{lawful-append}
-use Rattle.script_run.specs.Run.{Moved, MovesOn}
+use Rattle.script_run.specs.Run.{MovesOn}
 use Rattle.script_run.proofs.RunLemmas.{entry_items-append}
 
 pub some_unless : {A : Type 0} (o : Option A) → (o ≡ None → ⊥) → IsSome o

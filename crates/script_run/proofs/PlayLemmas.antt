@@ -1,12 +1,12 @@
 -- A whole script.
-use Rattle.std.proofs.Common.{◌≡◌, ◌⊎◌, inl, inr, ⊎_elim, ℕ, zero, suc, ◌+◌, ◌<◌, ◌≤◌, List, [], ◌∷◌, ◌++◌, length, Option, Some, None, IsTrue, refl, sym, ◌∙◌, ap, subst, arith, append_assoc, length-append, Result, Ok, Err, OnOk, IfOk, Bool, true, false, ◌&&◌, nat_eq}
-use Rattle.std.specs.Prelude.{IsErrOf, IsFalse, IsSome, IfSome}
+use Rattle.std.proofs.Common.{◌≡◌, ◌⊎◌, inl, inr, ℕ, ◌+◌, ◌≤◌, List, [], ◌∷◌, ◌++◌, length, Option, Some, None, IsTrue, refl, sym, ◌∙◌, ap, subst, arith, append_assoc, length-append, Result, Ok, Err, IfOk, Bool, true, false, ◌&&◌, nat_eq}
+use Rattle.std.specs.Prelude.{IsErrOf, IsSome, IfSome}
 use Rattle.std.proofs.lemmas.List.{append-nil}
 use Rattle.std.proofs.lemmas.Bool.Decides.{nat_tests}
-use Rattle.board_core.specs.Board.{BoardView, CrashState, IsSound, LeavesOnly}
+use Rattle.board_core.specs.Board.{BoardView, IsSound, LeavesOnly}
 use Rattle.script_text.specs.Lines.{lines_of}
 use Rattle.script_text.specs.Reading.{HasLeft}
-use Rattle.script_text.specs.Script.{Given, Said, given, bad_line, said_of, said_of_lines, said_by, form_of_line, HasNoForm, HasForm}
+use Rattle.script_text.specs.Script.{Said, bad_line, said_of, said_of_lines, said_by, HasNoForm, HasForm}
 use Rattle.script_text.specs.declared.form.Form.{Form}
 use Rattle.pef_journal.proofs.Moments.{leaves_map}
 use Rattle.pef_engine.specs.declared.entry.Entry.{Entry}

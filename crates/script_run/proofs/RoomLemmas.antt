@@ -1,9 +1,8 @@
 -- Where the next entry has no room.
-use Rattle.std.proofs.Common.{◌≡◌, ◌⊎◌, inl, inr, ⊎_elim, ℕ, ◌+◌, ◌<◌, ◌≤◌, ◌^◌, List, [], ◌∷◌, ◌++◌, length, map, Option, Some, None, IsTrue, refl, sym, ◌∙◌, ap, subst, arith, append_assoc, length-append}
+use Rattle.std.proofs.Common.{◌≡◌, ◌⊎◌, inl, inr, ⊎_elim, ℕ, ◌+◌, ◌<◌, ◌≤◌, ◌^◌, List, [], ◌∷◌, ◌++◌, length, map, Option, None, IsTrue, refl, sym, ◌∙◌, ap, subst, arith, append_assoc, length-append}
 use Rattle.std.proofs.lemmas.List.{append-nil, map-append}
 use Rattle.board_core.specs.declared.step.Told.{Told}
 use Rattle.board_core.specs.declared.step.Told.TheVariants.{Done}
-use Rattle.board_core.specs.declared.step.Step.{Step}
 use Rattle.board_core.specs.Board.{BoardView, IsSound}
 use Rattle.pef_journal.specs.Image.{header, blocks}
 use Rattle.pef_journal.proofs.Entries.{blocks-append}

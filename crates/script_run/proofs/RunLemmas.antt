@@ -1,7 +1,6 @@
 -- One call more of a run.
-use Rattle.std.proofs.Common.{◌≡◌, ◌⊎◌, inl, inr, ⊎_elim, ℕ, ◌+◌, ◌≤◌, ◌^◌, List, [], ◌∷◌, ◌++◌, length, map, Option, Some, None, IsTrue, is_some, false, refl, sym, ◌∙◌, ap, subst, arith, append_assoc, Result, Ok, Err, OnOk, IfOk, IsErrOf}
+use Rattle.std.proofs.Common.{◌≡◌, ℕ, ◌≤◌, ◌^◌, List, [], ◌∷◌, ◌++◌, Option, Some, None, IsTrue, is_some, refl, sym, ◌∙◌, ap, subst, append_assoc, Result, Ok, Err, OnOk, IsErrOf}
 use Rattle.std.proofs.lemmas.List.{append-nil, map-append}
-use Rattle.board_core.specs.declared.step.Step.{Step}
 use Rattle.board_core.specs.declared.step.Told.{Told}
 use Rattle.board_core.specs.declared.step.Sent.{Sent}
 use Rattle.board_core.specs.Board.{BoardView, CrashState, IsSound, LeavesOnly, steps_of, tolds_of}
@@ -11,9 +10,9 @@ use Rattle.pef_engine.specs.declared.entry.Entry.TheVariants.{Item, Outcome}
 use Rattle.pef_engine.specs.declared.engine.Engine.{Engine}
 use Rattle.pef_engine.specs.declared.faults.EngineFault.{EngineFault}
 use Rattle.pef_engine.specs.declared.faults.EngineFault.TheVariants as engine_fault
-use Rattle.pef_engine.specs.Rules.{Rules, LawfulFrom, Lawful, Allowed}
-use Rattle.pef_engine.specs.MachineView.{MachineView, Agrees}
-use Rattle.pef_engine.specs.CrashFree.{LeavesPrefix, prescribed, option_list, entry_items, entry_tolds, items_of}
+use Rattle.pef_engine.specs.Rules.{Rules, Allowed}
+use Rattle.pef_engine.specs.MachineView.{MachineView}
+use Rattle.pef_engine.specs.CrashFree.{LeavesPrefix, prescribed, option_list, entry_items, entry_tolds}
 use Rattle.pef_engine.specs.Engine.{Holds, Settled}
 use Rattle.script_run.specs.Report.{report_from}
 use Rattle.script_run.specs.Room.{file_size, HadRoom}

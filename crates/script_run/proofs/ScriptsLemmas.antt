@@ -1,14 +1,14 @@
 -- The script that was opened last, after some entries.
-use Rattle.std.proofs.Common.{◌≡◌, ◌⊎◌, ℕ, ◌+◌, ◌<◌, ◌≤◌, true, false, List, [], ◌∷◌, ◌++◌, Option, Some, None, refl, sym, ◌∙◌, ap, subst, arith, append_assoc}
+use Rattle.std.proofs.Common.{◌≡◌, ℕ, ◌+◌, ◌<◌, List, [], ◌∷◌, ◌++◌, Option, Some, None, refl, sym, ◌∙◌, ap, subst, append_assoc}
 use Rattle.std.proofs.lemmas.List.{append-nil}
 use Rattle.pef_engine.specs.declared.entry.Entry.{Entry}
 use Rattle.pef_engine.specs.declared.entry.Entry.TheVariants.{Item, Outcome}
 use Rattle.pef_engine.specs.declared.script.Script.{Script}
-use Rattle.pef_engine.specs.Rules.{Rules, Lawful, Allowed}
+use Rattle.pef_engine.specs.Rules.{Rules}
 use Rattle.pef_engine.specs.MachineView.{MachineView, Agrees}
 use Rattle.pef_engine.specs.CrashFree.{entry_items}
 use Rattle.pef_engine.specs.Scripts.{ScriptRules, IsScripted, Awaits, one_taken}
-use Rattle.script_run.specs.Run.{Moved, MovesOn, IsReadyFor}
+use Rattle.script_run.specs.Run.{MovesOn, IsReadyFor}
 
 -- one item more of an unfinished script
 awaits_more : (script : Option Script) (count n : ℕ) → Awaits script count n → Awaits (one_taken script) count (n + 1)

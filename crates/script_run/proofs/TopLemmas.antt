@@ -1,5 +1,5 @@
 -- From the opening and the calls after it to the whole run.
-use Rattle.std.proofs.Common.{◌≡◌, ◌⊎◌, inl, inr, ⊎_elim, ℕ, ◌+◌, ◌≤◌, List, [], ◌∷◌, ◌++◌, length, map, Option, Some, None, IsTrue, refl, sym, ◌∙◌, ap, subst, arith, append_assoc, Result, Ok, Err, OnOk, IfOk}
+use Rattle.std.proofs.Common.{◌≡◌, ◌⊎◌, inl, inr, ⊎_elim, ℕ, List, [], ◌∷◌, ◌++◌, map, Option, Some, None, IsTrue, refl, sym, ◌∙◌, ap, subst, append_assoc, Result, Ok, Err}
 use Rattle.std.specs.Prelude.{IsErrOf, IsSome}
 use Rattle.std.proofs.lemmas.List.{append-nil, append_cancel_left}
 use Rattle.board_core.specs.declared.step.Told.{Told}
@@ -8,7 +8,7 @@ use Rattle.pef_journal.specs.Image as image
 use Rattle.pef_engine.specs.declared.entry.Entry.{Entry}
 use Rattle.pef_engine.specs.declared.entry.Entry.TheVariants.{Item, Outcome}
 use Rattle.pef_engine.specs.declared.engine.Engine.{Engine}
-use Rattle.pef_engine.specs.Rules.{Rules, LawfulFrom, Lawful, Stands}
+use Rattle.pef_engine.specs.Rules.{Rules, LawfulFrom, Stands}
 use Rattle.pef_engine.specs.MachineView.{MachineView, Agrees}
 use Rattle.pef_engine.specs.CrashFree.{crash_free_run, LeavesPrefix, entry_items, entry_tolds, IsPrefixOf}
 use Rattle.pef_engine.specs.Engine.{Holds}
@@ -17,16 +17,16 @@ use Rattle.pef_engine.proofs.Compose.{run_goes_on, run_more}
 use Rattle.pef_engine.proofs.Prefixes.{run_item, run_outcome}
 use Rattle.pef_engine.proofs.Stored.{images_stand}
 use Rattle.pef_engine.proofs.Moments.{leaves_start}
-use Rattle.script_text.specs.Script.{said_of, bad_line}
+use Rattle.script_text.specs.Script.{said_of}
 use Rattle.script_run.specs.declared.stop.Stop.{Stop}
 use Rattle.script_run.specs.declared.stop.Stop.TheVariants.{Unformatted, Line, Unfinished, Input, Disk, Output, Full, Memory}
 use Rattle.pef_engine.specs.Scripts.{ScriptRules}
 use Rattle.script_run.specs.Items.{IsOther, items_of_text}
 use Rattle.script_run.specs.Report.{report_from}
 use Rattle.script_run.specs.Room.{HadRoom, HasLimit}
-use Rattle.script_run.specs.Run.{Runs, StopsFull, ComesNext, RunsGiven, IsTaken, Answers}
+use Rattle.script_run.specs.Run.{Runs, StopsFull, ComesNext, IsTaken}
 use Rattle.script_run.specs.Top.{IsUntouched, RunKeeps, RunTakes, ReturnLeft, IsFullAt}
-use Rattle.script_run.specs.Playing.{IsReported, AnswersOther, Plays, Performs, IsOpeningStop, AnswersNone}
+use Rattle.script_run.specs.Playing.{Plays, Performs, IsOpeningStop, AnswersNone}
 use Rattle.script_run.proofs.RunLemmas.{more_items}
 use Rattle.script_run.proofs.PlayLemmas.{none_of_other}
 

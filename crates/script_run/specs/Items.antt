@@ -1,8 +1,8 @@
 -- Which items a script still has to give after a history.
-use Rattle.std.specs.Prelude.{◌≡◌, ⊤, ℕ, ◌+◌, ◌&&◌, Bool, true, false, IsTrue, IsFalse, nat_eq, if◌then◌else◌, List, [], ◌∷◌, ◌++◌, length, map, drop, Option, Some, None}
+use Rattle.std.specs.Prelude.{ℕ, ◌&&◌, Bool, IsFalse, nat_eq, if◌then◌else◌, List, [], ◌∷◌, ◌++◌, map, drop, Option, Some, None}
 use Rattle.pef_engine.specs.declared.entry.Entry.{Entry}
 use Rattle.pef_engine.specs.declared.script.Script.{Script}
-use Rattle.script_text.specs.Script.{Given, Said, said_of, bad_line}
+use Rattle.script_text.specs.Script.{Given, Said, said_of}
 use Rattle.pef_engine.specs.Scripts.{ScriptRules}
 
 -- they have one id and one count

@@ -13,7 +13,6 @@ use Rattle.script_run.specs.declared.stop.Stop.{Stop}
 use Rattle.script_run.specs.declared.stop.Stop.TheVariants.{Unformatted, Line, Unfinished, Input, Disk, Output, Full, Memory}
 use Rattle.pef_engine.specs.Scripts.{ScriptRules}
 use Rattle.script_run.specs.Items.{IsOther, items_of_text}
-use Rattle.script_run.specs.Report.{says}
 use Rattle.script_run.specs.Top.{RunKeeps, RunTakes, IsFullAt, IsUntouched}
 use Rattle.script_run.specs.Room.{HasLimit}
 use Rattle.script_run.specs.Run.{Runs, IsTaken, Answers, RunsGiven}

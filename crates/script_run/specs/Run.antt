@@ -1,5 +1,5 @@
 -- What a run has done so far.
-use Rattle.std.specs.Prelude.{◌≡◌, ⊤, ℕ, List, ◌∷◌, ◌++◌, length, Option, Some, None, Result, Ok, Err, IsErrOf, IfOk, OnOk}
+use Rattle.std.specs.Prelude.{◌≡◌, ⊤, ℕ, List, ◌∷◌, ◌++◌, length, Option, Some, None, Result, Ok, Err, IsErrOf, IfOk}
 use Rattle.board_core.specs.declared.step.Step.{Step}
 use Rattle.board_core.specs.Board.{BoardView, LeavesOnly, steps_of, tolds_of}
 use Rattle.pef_engine.specs.declared.entry.Entry.{Entry}

@@ -2,7 +2,7 @@
 use Rattle.std.specs.Prelude.{◌≡◌, ⊤, ℕ, ◌+◌, ◌-◌, List, [], Option, Some, None, Result, Ok, Err}
 use Rattle.script_text.specs.Lines.{lines_of}
 use Rattle.script_text.specs.Reading.{HasLeft}
-use Rattle.script_text.specs.Script.{Given, given, give_event, bad_at}
+use Rattle.script_text.specs.Script.{given, give_event, bad_at}
 use Rattle.script_run.specs.declared.stop.Stop.{Stop}
 use Rattle.script_run.specs.declared.stop.Stop.TheVariants.{Unformatted, Line, Unfinished, Input, Disk, Output, Full, Memory}
 

@@ -1,4 +1,4 @@
-use Rattle.std.proofs.Common.{◌≡◌, ℕ, List, Option, Some, None, sym, ◌∙◌, ap, subst, refl}
+use Rattle.std.proofs.Common.{◌≡◌, Some, ◌∙◌, ap, subst, refl}
 use Rattle.script_text.specs.Lines.{lines_of}
 use Rattle.script_text.specs.Script.{GivesForm}
 use Rattle.script_text.specs.declared.form.Form.TheVariants.{Head, Event as EventForm, End}

@@ -1,17 +1,13 @@
-use Rattle.std.proofs.Common.{rules, ◌≡◌, ◌⊎◌, inl, inr, ◌+◌, ◌≤◌, ℕ, List, [], ◌∷◌, ◌++◌, Option, Some, None, Ok, Err, arith, sym, ◌∙◌, ap, subst, refl, IsTrue}
+use Rattle.std.proofs.Common.{inr, ◌+◌, [], ◌∷◌, ◌++◌, Ok, arith, ap, subst, refl}
 use Rattle.std.proofs.lemmas.Result.{err_from_is_err_and}
 use Rattle.board_core.specs.Board.{LeavesOnly}
 use Rattle.script_text.specs.Lines.{lines_of}
 use Rattle.script_text.specs.Script.{given}
-use Rattle.pef_engine.specs.declared.entry.Entry.{Entry}
 use Rattle.pef_engine.specs.CrashFree.{LeavesPrefix}
-use Rattle.pef_engine.specs.Engine.{Holds}
-use Rattle.script_run.specs.declared.stop.Stop.{Stop}
 use Rattle.script_run.specs.Report.{says}
 use Rattle.script_run.specs.Items.{rest_of}
-use Rattle.script_run.specs.Run.{Runs, StopsFull, RunsGiven}
-use Rattle.script_run.specs.Course.{items_on}
-use Rattle.script_run.proofs.RunLemmas.{err_is, is_err}
+use Rattle.script_run.specs.Run.{Runs, StopsFull}
+use Rattle.script_run.proofs.RunLemmas.{is_err}
 use Rattle.script_run.proofs.TakesLemmas.{step_fault}
 use Rattle.script_run.proofs.PlayLemmas.{first_fails, given_behind, fails_behind, opening_allowed, ready_opened}
 use Rattle.script_run.proofs.playing.begin.Goals as goal

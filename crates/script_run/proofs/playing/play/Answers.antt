@@ -1,21 +1,11 @@
-use Rattle.std.proofs.Common.{rules, ◌≡◌, ◌⊎◌, inl, inr, ◌+◌, ◌≤◌, ℕ, List, [], ◌∷◌, ◌++◌, Option, Some, None, Ok, Err, Result, arith, sym, ◌∙◌, ap, subst, refl, IsTrue}
+use Rattle.std.proofs.Common.{◌≡◌, ℕ, Some, None, Err, Result, sym, ◌∙◌, ap, subst}
 use Rattle.std.proofs.lemmas.Result.{err_from_is_err_and}
-use Rattle.board_core.specs.Board.{LeavesOnly}
 use Rattle.script_text.specs.Lines.{lines_of}
 use Rattle.script_text.specs.Script.{given, Said}
-use Rattle.pef_engine.specs.declared.entry.Entry.{Entry}
-use Rattle.pef_engine.specs.CrashFree.{LeavesPrefix}
-use Rattle.pef_engine.specs.Engine.{Holds}
 use Rattle.script_run.specs.declared.stop.Stop.{Stop}
-use Rattle.script_run.specs.declared.stop.Stop.TheVariants.{Full}
-use Rattle.script_run.specs.declared.course.Course.TheVariants.{Begins, Over, GoesOn}
 use Rattle.script_run.specs.Report.{says}
-use Rattle.script_run.specs.Items.{rest_of}
-use Rattle.script_run.specs.Run.{Runs, StopsFull, IsTaken, RunsGiven}
-use Rattle.script_run.specs.Course.{items_on, TakesCourse, IsCourse, GivesCourse, GivesHead}
-use Rattle.script_run.specs.Playing.{Plays}
-use Rattle.script_run.proofs.RunLemmas.{err_is, is_err}
-use Rattle.script_run.proofs.TakesLemmas.{step_fault}
+use Rattle.script_run.specs.Run.{IsTaken}
+use Rattle.script_run.specs.Course.{IsCourse, GivesCourse}
 use Rattle.script_run.proofs.PlayLemmas.{head_not, plays_head, plays_refused, plays_on, reader_left}
 use Rattle.script_run.proofs.playing.play.Goals as goal
 

@@ -1,12 +1,8 @@
-use Rattle.std.proofs.Common.{rules, ◌≡◌, ◌⊎◌, inl, inr, ⊎_elim, ◌≤◌, ℕ, List, [], ◌∷◌, ◌++◌, Option, Some, None, Ok, Err, Result, arith, sym, ◌∙◌, ap, subst, refl, IsTrue}
-use Rattle.pef_engine.specs.declared.entry.Entry.{Entry}
-use Rattle.pef_engine.specs.Rules.{Stands}
-use Rattle.script_run.specs.declared.stop.Stop.{Stop}
-use Rattle.script_run.specs.declared.stop.Stop.TheVariants.{Unformatted, Full, Memory}
+use Rattle.std.proofs.Common.{◌≡◌, ⊎_elim, ℕ, ◌∙◌, ap}
+use Rattle.script_run.specs.declared.stop.Stop.TheVariants.{Unformatted, Full}
 use Rattle.script_run.specs.Report.{says}
 use Rattle.script_run.specs.Items.{items_of_text}
 use Rattle.script_run.specs.Top.{IsUntouched}
-use Rattle.script_run.specs.Playing.{Performs, AnswersNone}
 use Rattle.script_run.proofs.RunLemmas.{err_is, is_err}
 use Rattle.script_run.proofs.TopLemmas.{open_keeps, performs_not, performs, opening_none}
 use Rattle.script_run.proofs.running.perform.Goals as goal

@@ -1,4 +1,4 @@
-use Rattle.std.proofs.Common.{◌≡◌, ap}
+use Rattle.std.proofs.Common.{ap}
 use Rattle.script_run.proofs.EndLemmas.{run_call}
 use Rattle.script_run.proofs.running.run.Goals as goal
 

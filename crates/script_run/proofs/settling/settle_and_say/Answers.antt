@@ -1,11 +1,9 @@
-use Rattle.std.proofs.Common.{rules, ◌≡◌, ◌≤◌, ℕ, List, [], ◌++◌, Option, Some, None, Ok, arith, sym, ◌∙◌, ap, subst, refl, ⊎_elim}
+use Rattle.std.proofs.Common.{◌≡◌, [], ◌++◌, Some, Ok, arith, ◌∙◌, ap, subst, refl}
 use Rattle.board_core.specs.declared.step.Told.TheVariants.{Done}
-use Rattle.pef_engine.specs.declared.entry.Entry.{Entry}
 use Rattle.pef_engine.specs.declared.entry.Entry.TheVariants.{Outcome}
-use Rattle.pef_engine.specs.Engine.{Settled, Holds}
+use Rattle.pef_engine.specs.Engine.{Settled}
 use Rattle.script_run.specs.declared.stop.Stop.{Stop}
 use Rattle.script_run.specs.Report.{says, outcome_line}
-use Rattle.script_run.specs.Run.{Runs}
 use Rattle.script_run.proofs.RunLemmas.{runs_start, moments_behind, runs_compose, one_outcome, appends_ok, err_is, is_err}
 use Rattle.script_run.proofs.RoomLemmas.{had_room, full_now, too_much_outcome}
 use Rattle.script_run.proofs.Moves.{moves_none, moves_one, moves_compose, some_unless, some_of}

@@ -1,7 +1,5 @@
-use Rattle.std.proofs.Common.{◌≡◌, ℕ, ◌+◌, List, [], ◌≤◌}
-use Rattle.script_text.specs.Lines.{lines_of}
+use Rattle.std.proofs.Common.{◌≡◌, ℕ, ◌+◌, List, ◌≤◌}
 use Rattle.script_text.specs.Reading.{HasLeft}
-use Rattle.script_text.specs.Script.{given}
 use Rattle.script_run.specs.Run.{Passes}
 use Rattle.script_run.proofs.taking.pass_over.Given as goal
 

@@ -1,18 +1,13 @@
 use Rattle.std.proofs.lemmas.Result.{err_from_is_err_and}
-use Rattle.std.proofs.Common.{rules, ◌≡◌, ◌≤◌, ◌<◌, ◌-◌, ◌+◌, ℕ, List, [], ◌∷◌, ◌++◌, Option, Some, None, Ok, Err, Result, is_some, arith, sym, ◌∙◌, ap, subst, refl, IsTrue}
+use Rattle.std.proofs.Common.{◌≡◌, ◌≤◌, ◌<◌, ◌-◌, ◌+◌, [], ◌∷◌, ◌++◌, Ok, arith, subst}
 use Rattle.board_core.specs.Board.{LeavesOnly}
-use Rattle.pef_engine.specs.declared.entry.Entry.{Entry}
 use Rattle.pef_engine.specs.CrashFree.{LeavesPrefix}
-use Rattle.pef_engine.specs.Engine.{Holds}
-use Rattle.script_text.specs.Lines.{lines_of}
-use Rattle.script_text.specs.Script.{given}
-use Rattle.script_run.specs.declared.stop.Stop.{Stop}
 use Rattle.script_run.specs.Report.{says}
 use Rattle.script_run.specs.Taking.{GivesEvent}
-use Rattle.script_run.specs.Run.{Runs, StopsFull, IsReadyFor, MovesOn}
-use Rattle.script_run.proofs.RunLemmas.{err_is, is_err}
+use Rattle.script_run.specs.Run.{Runs, StopsFull, IsReadyFor}
+use Rattle.script_run.proofs.RunLemmas.{is_err}
 use Rattle.script_run.proofs.ScriptsLemmas.{event_allowed, closing_allowed, ready_more}
-use Rattle.script_run.proofs.TakesLemmas.{not_taken, no_event, one_event, takes_start, takes_skip, takes_event, takes_moments, stops_next, event_fails, ends_text, close_fails}
+use Rattle.script_run.proofs.TakesLemmas.{no_event, one_event, takes_start, takes_skip, takes_event, stops_next, event_fails, ends_text, close_fails}
 use Rattle.script_run.proofs.taking.take_lines.Goals as goal
 
 pub lines-init : goal.lines-init

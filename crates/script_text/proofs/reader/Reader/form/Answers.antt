@@ -1,6 +1,6 @@
 use Rattle.std.proofs.Common.{◌∙◌, ap, subst}
 use Rattle.script_text.specs.Forms.{form_of}
-use Rattle.script_text.specs.Reading.{HasLeft, Finds}
+use Rattle.script_text.specs.Reading.{Finds}
 use Rattle.script_text.proofs.ScriptLemmas.{names_form, long_form, end_form, has_count}
 use Rattle.script_text.proofs.reader.Reader.form.Goals as goal
 
