@@ -13,6 +13,7 @@ use Rattle.pef_journal.specs.declared.fault.JournalFault.TheVariants as journal_
 use Rattle.pef_journal.specs.declared.journal.Journal.{Journal}
 use Rattle.pef_journal.specs.Image as image
 use Rattle.pef_journal.specs.Journal.{IsAt, HasRead, GivesEntry, Finds, LeavesAsRead}
+use Rattle.pef_engine.specs.Faults.{fault_of}
 use Rattle.pef_engine.specs.Rules.{Rules, Allowed, LawfulFrom, Lawful, Stands, Decodes, BreaksAt}
 use Rattle.pef_engine.specs.MachineView.{MachineView, IsOver, GoesOn}
 use Rattle.pef_engine.specs.CrashFree.{LeavesPrefix}
@@ -21,6 +22,19 @@ use Rattle.pef_journal.proofs.Moments.{syncs_map}
 use Rattle.pef_journal.proofs.ReadOn.{reads_stand}
 use Rattle.pef_engine.proofs.Moments.{leaves_start}
 use Rattle.pef_engine.proofs.Stored.{lawful-append}
+
+-- what the journal answered where the engine says so
+pub unformatted_of : (fault : JournalFault) → fault_of fault ≡ NotFormatted → fault ≡ journal_fault.NotFormatted
+unformatted_of journal_fault.NotFormatted is = refl
+unformatted_of (journal_fault.Corrupt at) is = absurd (cc is)
+unformatted_of journal_fault.DiskFault is = absurd (cc is)
+unformatted_of journal_fault.Full is = absurd (cc is)
+
+pub corrupt_of : (fault : JournalFault) (at : ℕ) → fault_of fault ≡ Corrupt at → fault ≡ journal_fault.Corrupt at
+corrupt_of journal_fault.NotFormatted at is = absurd (cc is)
+corrupt_of (journal_fault.Corrupt place) at is = cc is
+corrupt_of journal_fault.DiskFault at is = absurd (cc is)
+corrupt_of journal_fault.Full at is = absurd (cc is)
 
 module _ {I : Type 0} (rules : Rules I) (Z : List ℕ) (are : (Z : List ℕ) (G : List (Entry I)) (e : Entry I) → Allowed rules Z G e → rules.is_entry e) where
   -- a history whose entries begin as these do, in octets, begins with them

@@ -1,5 +1,7 @@
 //! Why a machine or an engine refuses.
-ghost use Rattle.std.specs.Prelude.{◌≡◌, ◌↔◌};
+ghost use Rattle.std.specs.Prelude.{◌≡◌};
+ghost use Rattle.pef_engine.specs.Faults.{fault_of};
+ghost use Rattle.pef_engine.specs.declared.faults.EngineFault.TheVariants.{Memory};
 
 use pef_journal::JournalFault;
 use std::alloc::AllocError;
@@ -36,17 +38,23 @@ pub enum EngineFault {
     Memory(AllocError),
 }
 
-// The engine's word for what stopped the journal.
-pub(crate) fn fault_of(fault: JournalFault) -> EngineFault
-    ensures disk { fault ≡ JournalFault.DiskFault ↔ result ≡ EngineFault.DiskFault }
-    ensures unformatted { fault ≡ JournalFault.NotFormatted ↔ result ≡ EngineFault.NotFormatted }
-    ensures full { fault ≡ JournalFault.Full ↔ result ≡ EngineFault.Full }
-    ensures corrupt { (at : _) → fault ≡ JournalFault.Corrupt at ↔ result ≡ EngineFault.Corrupt at }
-{
-    match fault {
-        JournalFault::NotFormatted => EngineFault::NotFormatted,
-        JournalFault::Corrupt { at } => EngineFault::Corrupt { at },
-        JournalFault::DiskFault => EngineFault::DiskFault,
-        JournalFault::Full => EngineFault::Full,
+impl From<JournalFault> for EngineFault {
+    ghost from_gives = { λ journal fault. fault ≡ fault_of journal };
+
+    fn from(fault: JournalFault) -> EngineFault {
+        match fault {
+            JournalFault::NotFormatted => EngineFault::NotFormatted,
+            JournalFault::Corrupt { at } => EngineFault::Corrupt { at },
+            JournalFault::DiskFault => EngineFault::DiskFault,
+            JournalFault::Full => EngineFault::Full,
+        }
+    }
+}
+
+impl From<AllocError> for EngineFault {
+    ghost from_gives = { λ error fault. fault ≡ Memory error };
+
+    fn from(error: AllocError) -> EngineFault {
+        EngineFault::Memory(error)
     }
 }

@@ -10,7 +10,7 @@ ghost use Rattle.pef_engine.specs.MachineView.{MachineView};
 ghost use Rattle.pef_engine.specs.Engine.{IsLive, HasPlace, AfterOpen, ShowsSome, HasCorruptCause};
 
 use crate::engine::{Engine, make_ready};
-use crate::faults::{EngineFault, fault_of};
+use crate::faults::EngineFault;
 use crate::machine::Machine;
 use board_core::{Board, Payload};
 use pef_journal::Journal;
@@ -64,21 +64,13 @@ impl<M: Machine> Engine<M> {
         ensures full { IsErrOf result EngineFault.Full → (machine : M) × (item : M.Item) × (M.view machine).over item }
         ensures disk { IsErrOf result EngineFault.DiskFault → Rose (B.view board.old).disk_faults (B.view board.new).disk_faults }
     {
-        let mut journal = match Journal::open(board, M::kind(), settings) {
-            Ok(journal) => journal,
-            Err(fault) => return Err(fault_of(fault)),
-        };
-        let mut machine = match M::fresh(alloc, settings) {
-            Ok(machine) => machine,
-            Err(error) => return Err(EngineFault::Memory(error)),
-        };
+        let mut journal = Journal::open(board, M::kind(), settings)?;
+        let mut machine = M::fresh(alloc, settings)?;
         let mut payload = Payload::new();
         'entries: loop {
             let gate = journal.place();
-            match journal.entry(board, &mut payload) {
-                Ok(true) => {}
-                Ok(false) => break 'entries,
-                Err(fault) => return Err(fault_of(fault)),
+            if !journal.entry(board, &mut payload)? {
+                break 'entries;
             }
             let Some(entry) = M::decode_entry(payload.as_slice()) else {
                 return Err(EngineFault::Corrupt { at: gate });
