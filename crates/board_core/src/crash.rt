@@ -28,7 +28,7 @@ impl Trace {
     }
 }
 
-// The same steps.
+/// The same steps, in memory of their own.
 pub fn copies(alloc: Global, sent: &[Sent]) -> Result<Vec<Sent>, AllocError>
     ensures { IfOk result (λ copies. copies.items ≡ sent.now) }
 {

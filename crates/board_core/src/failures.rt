@@ -13,6 +13,7 @@ pub struct Failures {
 impl Failures {
     ghost use Rattle.board_core.specs.Failures.{FailsNext, CountsOne};
 
+    /// The calls with these numbers fail, and the next call is number 0.
     pub fn new(alloc: Global, listed: &[u64]) -> Result<Failures, AllocError>
         ensures listed { IfOk result (λ failures. failures.listed.items ≡ listed.now) }
         ensures next { IfOk result (λ failures. failures.next ≡ 0) }

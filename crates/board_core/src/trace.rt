@@ -7,6 +7,7 @@ use crate::file::{padded, put};
 use crate::step::Sent;
 use std::alloc::{AllocError, Global};
 
+/// The file of a board in memory, its steps, and the calls that made both of what it began with.
 #[derive(Drop)]
 pub struct Trace {
     alloc: Global,
