@@ -34,7 +34,7 @@ impl<B: Board + Drop> ReadAhead<B> {
 }
 
 impl<B: Board> ReadAhead<B> {
-    ghost use Rattle.std.specs.Prelude.{◌+◌, ◌-◌, ◌≤◌, min, true, IfOk, OnOk};
+    ghost use Rattle.std.specs.Prelude.{◌+◌, ◌-◌, ◌≤◌, min, true, IfOk, OnOk, IsOk};
     ghost use Rattle.board_core.specs.Causes.{HasCause};
     ghost use Rattle.board_core.specs.Board.{Reads, HasRoomFor};
     ghost use Rattle.read_ahead.specs.ReadAhead.{KnowsEnd, Keeps};
@@ -44,7 +44,7 @@ impl<B: Board> ReadAhead<B> {
         ensures length { IsTrue (B.view self.new.board).tells → IfOk result (λ n. n ≡ length (B.view self.old.board).octets) }
         ensures same { Reads (B.view self.old.board) (B.view self.new.board) }
         ensures cause { HasCause (B.view self.old.board).disk_faults (B.view self.new.board).disk_faults result }
-        ensures no_call { KnowsEnd self.old → self.new ≡ self.old }
+        ensures no_call { KnowsEnd self.old → IsOk result × (self.new ≡ self.old) }
         ensures known { OnOk result (KnowsEnd self.new) }
     {
         if let Some(end) = self.end {
@@ -91,7 +91,7 @@ impl<B: Board> Board for ReadAhead<B> {
         ensures length { IsTrue (B.view self.new.board).tells → IfOk result (λ n. n ≡ length (B.view self.old.board).octets) }
         ensures same { Reads (B.view self.old.board) (B.view self.new.board) }
         ensures cause { HasCause (B.view self.old.board).disk_faults (B.view self.new.board).disk_faults result }
-        ensures no_call { KnowsEnd self.old → self.new ≡ self.old }
+        ensures no_call { KnowsEnd self.old → IsOk result × (self.new ≡ self.old) }
         ensures known { OnOk result (KnowsEnd self.new) }
     {
         self.end()
