@@ -6,21 +6,25 @@ ghost use Rattle.pef_cli.specs.Output.{last_line};
 
 use board_core::DiskFailed;
 use script_text::TextFault;
-use std::error::Error;
-use std::fmt;
+use thiserror::Error;
 
 /// What keeps `init` from making the file.
-#[derive(Clone, Copy, Debug, PartialEq, Eq)]
+#[derive(Clone, Copy, Debug, PartialEq, Eq, Error)]
 pub enum InitFault {
     /// The settings text is refused.
+    #[error("the settings text is refused")]
     Settings,
     /// The settings could not be read.
+    #[error("the settings could not be read")]
     Input,
     /// The disk failed.
+    #[error("the disk failed")]
     Disk,
     /// There was no memory to hold the settings text.
+    #[error("there is no memory for the settings text")]
     Memory,
     /// The file is formatted already.
+    #[error("the file is formatted already")]
     Formatted,
 }
 
@@ -70,17 +74,3 @@ impl From<TextFault> for InitFault {
         }
     }
 }
-
-impl fmt::Display for InitFault {
-    fn fmt<W: fmt::Write>(&self, f: &mut fmt::Formatter<W>) -> fmt::Result {
-        f.write_str(match self {
-            InitFault::Settings => "the settings text is refused",
-            InitFault::Input => "the settings could not be read",
-            InitFault::Disk => "the disk failed",
-            InitFault::Memory => "out of memory",
-            InitFault::Formatted => "the file is formatted already",
-        })
-    }
-}
-
-impl Error for InitFault {}

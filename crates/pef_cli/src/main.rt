@@ -18,13 +18,9 @@ const USAGE: u8 = 2;
 fn main(rt: HostRuntime) -> ExitCode {
     let status = match start(&rt) {
         Ok(status) => status,
-        Err(NoStart::File) => {
-            let _ = eprintln!(&rt; "cannot start");
-            1
-        }
-        Err(NoStart::Memory) => {
-            let _ = eprintln!(&rt; "memory");
-            10
+        Err(fault) => {
+            let _ = eprintln!(&rt; "{fault}");
+            status_of(fault)
         }
     };
     if status == USAGE {
@@ -33,6 +29,14 @@ fn main(rt: HostRuntime) -> ExitCode {
         }
     }
     ExitCode::from(status)
+}
+
+// The program's status where no work could begin.
+fn status_of(fault: NoStart) -> u8 {
+    match fault {
+        NoStart::File => 1,
+        NoStart::Memory => 10,
+    }
 }
 
 #[cfg(test)]

@@ -1,4 +1,9 @@
 //! From the words that the program was called with to its call.
+ghost use Rattle.std.specs.Prelude.{◌≡◌, ◌↔◌};
+ghost use Rattle.std.specs.IoError.{error_kind};
+ghost use Rattle.std.specs.declared.io.ErrorKind.TheVariants.{OutOfMemory};
+ghost use Rattle.pef_cli.specs.declared.starting.NoStart.TheVariants.{Memory};
+
 use crate::form::Form;
 use crate::program::top;
 use crate::words::paths;
@@ -8,17 +13,22 @@ use real_devices::{FileBoard, FileSource, StdSink};
 use std::alloc::AllocError;
 use std::io::ErrorKind;
 use std::{env, io};
+use thiserror::Error;
 
 /// Why no work could begin.
-#[derive(Clone, Copy, Debug, PartialEq, Eq)]
+#[derive(Clone, Copy, Debug, PartialEq, Eq, Error)]
 pub enum NoStart {
     /// A file could not be opened.
+    #[error("cannot start")]
     File,
     /// There was no memory.
+    #[error("memory")]
     Memory,
 }
 
 impl From<io::Error> for NoStart {
+    ghost from_gives = { λ error fault. fault ≡ Memory ↔ error_kind error ≡ OutOfMemory };
+
     fn from(error: io::Error) -> NoStart {
         match error.kind() {
             ErrorKind::OutOfMemory => NoStart::Memory,
@@ -28,6 +38,8 @@ impl From<io::Error> for NoStart {
 }
 
 impl From<AllocError> for NoStart {
+    ghost from_gives = { λ _ fault. fault ≡ Memory };
+
     fn from(_: AllocError) -> NoStart {
         NoStart::Memory
     }

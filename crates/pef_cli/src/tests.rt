@@ -1,5 +1,6 @@
 // Calls of the program on objects in memory: what the files of each form are, what it leaves and says.
 mod crash;
+mod fault;
 mod full;
 mod init;
 mod memory;

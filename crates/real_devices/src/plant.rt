@@ -29,17 +29,11 @@ impl Plant {
     /// Appends the action's line.
     pub fn act<R: Files<File = File>>(&mut self, rt: &R, kind: Act, id: u16) -> io::Result<()> {
         let line = line_of(kind, id);
-        if self.file.is_none() {
-            let file = OpenOptions::new()
-                .append(true)
-                .create(true)
-                .open(rt, self.path.as_str())?;
-            self.file = Some(file);
-        }
-        match &mut self.file {
-            Some(file) => file.write_all(line.as_slice()),
-            None => Ok(()),
-        }
+        let path = self.path.as_str();
+        let file = self.file.get_or_try_insert_with(|| {
+            OpenOptions::new().append(true).create(true).open(rt, path)
+        })?;
+        file.write_all(line.as_slice())
     }
 }
 
