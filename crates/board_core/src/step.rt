@@ -57,6 +57,24 @@ pub struct Sent {
     pub told: Told,
 }
 
+impl Act {
+    ghost use Rattle.std.specs.Prelude.{◌≡◌};
+    ghost use Rattle.board_core.specs.Acts.{act_word};
+
+    /// The action's word, in lower case.
+    pub fn word(self) -> &'static [u8]
+        ensures { result.now ≡ act_word self }
+    {
+        match self {
+            Act::PowerDown => b"power-down",
+            Act::PowerCycle => b"power-cycle",
+            Act::Reset => b"reset",
+            Act::DiagInt => b"diagnostic",
+            Act::Oem => b"oem",
+        }
+    }
+}
+
 impl Step {
     ghost use Rattle.std.specs.Prelude.{◌≡◌};
 

@@ -1,6 +1,6 @@
 // The plant's actions as lines of a file.
 ghost use Rattle.std.specs.Prelude.{◌≡◌};
-ghost use Rattle.real_devices.specs.Plant.{kind_text, action_line};
+ghost use Rattle.real_devices.specs.Plant.{action_line};
 
 use board_core::{Act, Bytes};
 use hex::encode_to_slice;
@@ -44,21 +44,9 @@ fn line_of(kind: Act, id: u16) -> Bytes<24>
     let mut digits = [0u8; 4];
     let _ = encode_to_slice(id.to_be_bytes(), &mut digits);
     let mut line = Bytes::new();
-    let _ = line.extend(word_of(kind));
+    let _ = line.extend(kind.word());
     let _ = line.extend(b" ".as_slice());
     let _ = line.extend(&digits);
     let _ = line.extend(b"\n".as_slice());
     line
-}
-
-fn word_of(kind: Act) -> &'static [u8]
-    ensures { result.now ≡ kind_text kind }
-{
-    match kind {
-        Act::PowerDown => b"power-down",
-        Act::PowerCycle => b"power-cycle",
-        Act::Reset => b"reset",
-        Act::DiagInt => b"diagnostic",
-        Act::Oem => b"oem",
-    }
 }

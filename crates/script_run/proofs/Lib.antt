@@ -1,4 +1,5 @@
 pub mod RunLemmas
+pub mod ReportLemmas
 pub mod Moves
 pub mod RoomLemmas
 pub mod ScriptsLemmas

@@ -23,10 +23,11 @@ use Rattle.script_run.specs.declared.course.Course.{Course}
 use Rattle.script_run.specs.declared.course.Course.TheVariants.{Over, GoesOn, Begins}
 use Rattle.pef_engine.specs.Scripts.{ScriptRules, IsScripted, Awaits, IsUnfinished, IsWithin}
 use Rattle.script_run.specs.Items.{is_same, IsOther, items_after, items_of_text, rest_of}
-use Rattle.script_run.specs.Run.{Runs, StopsFull, RunsGiven, IsTaken, Answers, MovesOn, IsReadyFor}
+use Rattle.script_run.specs.Run.{Runs, StopsFull, Reports, RunsGiven, IsTaken, Answers, MovesOn, IsReadyFor}
 use Rattle.script_run.specs.Course.{IsCourse, IsAnother, GivesCourse, GivesHead, TakesCourse, items_on}
 use Rattle.script_run.specs.Playing.{Plays}
 use Rattle.script_run.proofs.RunLemmas.{runs_start, runs_compose, more_items, moments_after}
+use Rattle.script_run.proofs.ReportLemmas.{if_err_map, reports_now, reports_behind, reports_more}
 use Rattle.script_run.proofs.RoomLemmas.{full_behind, comes_more}
 use Rattle.script_run.proofs.ScriptsLemmas.{script_keeps, script_one}
 use Rattle.script_run.proofs.TakesLemmas.{IsFault, fault_given}
@@ -55,11 +56,11 @@ module _ {I M : Type 0} (rules : Rules I) (view : M → MachineView I) (says : L
 
   -- the first of the items is not taken, or not settled
   pub first_fails : (items rest all : List I) (bad : Option ℕ) (start now : BoardView) (engine : Engine M I) (before after : Option (List ℕ)) (stop : Stop) → IsFault stop → LeavesOnly start now (LeavesPrefix rules Z H start.sent items)
-      → (stop ≡ Full → StopsFull rules view says Z H items start now engine before after) → items ++ rest ≡ all → RunsGiven rules view says Z H all bad start now engine before after (Err stop)
-  first_fails items rest all bad start now engine before after stop fault m full is =
+      → (stop ≡ Full → StopsFull rules view says Z H items start now engine before after) → Reports rules says Z H items now before after stop → items ++ rest ≡ all → RunsGiven rules view says Z H all bad start now engine before after (Err stop)
+  first_fails items rest all bad start now engine before after stop fault m full q is =
       fault_given rules view says Z H all bad start now engine before after stop fault
       (leaves_map start now (LeavesPrefix rules Z H start.sent items) (LeavesPrefix rules Z H start.sent all) (λ left p. subst (λ i. LeavesPrefix rules Z H start.sent i left) is (more_items rules view says Z H start items rest left p)) m)
-      (λ e. full_more items rest all start now engine before after (full e) is)
+      (λ e. full_more items rest all start now engine before after (full e) is) (reports_more rules view says Z H items rest all now before after stop q is)
 
   -- what is run behind some items
   pub given_behind : (items more all : List I) (bad : Option ℕ) (start now new : BoardView) (engine next : Engine M I) (one two three : Option (List ℕ)) (n m : Result ℕ Stop) (p : Runs rules view says Z H items start now engine one two)
@@ -71,6 +72,7 @@ module _ {I M : Type 0} (rules : Rules I) (view : M → MachineView I) (says : L
     moments = moments_after rules view says Z H items more [] all start now new engine one two p q.moments (ap (λ l. items ++ l) (append-nil more) ∙ is);
     runs = λ t. subst (λ i. Runs rules view says Z H i start new next one three) is (runs_compose rules view says Z H items more start now new engine next one two three p (q.runs t));
     full = λ e. full_behind rules view says Z H items more [] all start now new engine next one two three p (q.full e) (ap (λ l. items ++ l) (append-nil more) ∙ is);
+    reports = if_err_map n (λ stop r. reports_behind rules view says Z H items more [] all start now new engine one two three stop p r (ap (λ l. items ++ l) (append-nil more) ∙ is)) q.reports;
   })
   given_behind items more all bad start now new engine next one two three n m p q is (inr ended) =
       let r = subst (λ x. RunsGiven rules view says Z (H ++ p.entries) more bad now new next two three x) ended.1 q in
@@ -80,6 +82,7 @@ module _ {I M : Type 0} (rules : Rules I) (view : M → MachineView I) (says : L
         moments = moments_after rules view says Z H items more [] all start now new engine one two p r.moments (ap (λ l. items ++ l) (append-nil more) ∙ is);
         runs = λ t. subst (λ i. Runs rules view says Z H i start new next one three) is (runs_compose rules view says Z H items more start now new engine next one two three p (r.runs tt));
         full = λ err. absurd (cc err);
+        reports = tt;
       })
 
   -- a fault behind some items
@@ -91,6 +94,7 @@ module _ {I M : Type 0} (rules : Rules I) (view : M → MachineView I) (says : L
     moments = moments_after rules view says Z H items more [] all start now new engine one two p q.moments (ap (λ l. items ++ l) (append-nil more) ∙ is);
     runs = λ t. subst (λ i. Runs rules view says Z H i start new next one three) is (runs_compose rules view says Z H items more start now new engine next one two three p (q.runs t));
     full = λ e. full_behind rules view says Z H items more [] all start now new engine next one two three p (q.full e) (ap (λ l. items ++ l) (append-nil more) ∙ is);
+    reports = reports_behind rules view says Z H items more [] all start now new engine one two three stop p q.reports (ap (λ l. items ++ l) (append-nil more) ∙ is);
   }
 
   -- nothing more was taken
@@ -102,6 +106,7 @@ module _ {I M : Type 0} (rules : Rules I) (view : M → MachineView I) (says : L
     moments = p.moments;
     runs = λ t. p;
     full = λ err. absurd (cc err);
+    reports = tt;
   }
 
   pub stops_none : (bad : Option ℕ) (start now : BoardView) (engine : Engine M I) (before after : Option (List ℕ)) (stop : Stop) (p : Runs rules view says Z H [] start now engine before after) → Answers {A = ℕ} bad (Err stop) → (stop ≡ Full → ⊥)
@@ -112,13 +117,14 @@ module _ {I M : Type 0} (rules : Rules I) (view : M → MachineView I) (says : L
     moments = p.moments;
     runs = λ t. p;
     full = λ err. absurd (not_full (cc err));
+    reports = reports_now rules view says Z H [] [] [] start now engine before after stop p refl;
   }
 
   -- a script that was closed before
   pub over_given : (bad : Option ℕ) (start now : BoardView) (engine : Engine M I) (before after : Option (List ℕ)) (result : Result ℕ Stop) (p : Runs rules view says Z H [] start now engine before after) → Answers bad result → IfOk result (λ n. n ≡ 0) → (IsErrOf result Disk → ⊥) × (IsErrOf result Output → ⊥) × (IsErrOf result Full → ⊥) × (IsErrOf result Memory → ⊥) × (IsErrOf result Unformatted → ⊥) × ((id count : ℕ) → IsErrOf result (Unfinished id count) → ⊥)
       → RunsGiven rules view says Z H [] bad start now engine before after result
-  over_given bad start now engine before after (Ok n) p answers none other = record { answers = answers; number = none; moments = p.moments; runs = λ t. p; full = λ err. absurd (cc err) }
-  over_given bad start now engine before after (Err stop) p answers none other = record { answers = answers; number = tt; moments = p.moments; runs = λ t. p; full = λ err. absurd (other.2 err) }
+  over_given bad start now engine before after (Ok n) p answers none other = record { answers = answers; number = none; moments = p.moments; runs = λ t. p; full = λ err. absurd (cc err); reports = tt }
+  over_given bad start now engine before after (Err stop) p answers none other = record { answers = answers; number = tt; moments = p.moments; runs = λ t. p; full = λ err. absurd (other.2 err); reports = reports_now rules view says Z H [] [] [] start now engine before after stop p refl }
 
 -- where line 1 isn't a head, nothing was taken behind a good line 1
 pub head_not : (text held : List ℕ) (source : Option (List ℕ)) (stop : Stop) → GivesHead text held source (Err stop) → IsSome (said_of text) → IsTaken {A = ℕ} (Err stop) → ⊥
@@ -239,19 +245,22 @@ module _ {I M : Type 0} (rules : Rules I) (view : M → MachineView I) (says : L
   pub plays_bad : said_of text ≡ None → Plays rules view says scripts Z H text start start engine written written (Err (Line 1))
   plays_bad none =
       let items : [] ≡ items_of_text scripts text H = sym (ap (items_after scripts (scripts.script_of H)) none) in
-      let r = subst (λ i. Runs rules view says Z H i start start engine written written) items (runs_start rules view says Z H start engine written sound tells holds) in record {
+      let r = subst (λ i. Runs rules view says Z H i start start engine written written) items (runs_start rules view says Z H start engine written sound tells holds) in
+      let report = reports_now rules view says Z H (items_of_text scripts text H) [] (items_of_text scripts text H) start start engine written written (Line 1) r (append-nil (items_of_text scripts text H)) in record {
         runs = λ not. record {
           answers = ap bad_line none;
           number = tt;
           moments = r.moments;
           runs = λ t. r;
           full = λ err. absurd (cc err);
+          reports = report;
         };
         moments = r.moments;
         refuses = λ other. absurd (never (scripts.script_of H) (subst (IsOther (scripts.script_of H)) none other));
         other = λ id count e. absurd (cc e);
         headless = λ none. tt;
         full = λ err. absurd (cc err);
+        reports = report;
       }
     where
       never : (script : Option Script) → IsOther script None → ⊥
@@ -266,6 +275,9 @@ module _ {I M : Type 0} (rules : Rules I) (view : M → MachineView I) (says : L
       let r = runs_start rules view says Z H start engine written sound tells holds in
       leaves_map start start (LeavesPrefix rules Z H start.sent []) (LeavesPrefix rules Z H start.sent items) (λ left p. more_items rules view says Z H start [] items left p) r.moments
 
+  nothing_reported : (stop : Stop) → Reports rules says Z H (items_of_text scripts text H) start written written stop
+  nothing_reported stop = reports_now rules view says Z H [] (items_of_text scripts text H) (items_of_text scripts text H) start start engine written written stop (runs_start rules view says Z H start engine written sound tells holds) refl
+
   -- another script is unfinished
   pub plays_other : (said : Said) → said_of text ≡ Some said → (id count : ℕ) → IsAnother (scripts.script_of H) said.id said.count id count → Plays rules view says scripts Z H text start start engine written written (Err (Unfinished id count))
   plays_other said is id count names =
@@ -276,17 +288,19 @@ module _ {I M : Type 0} (rules : Rules I) (view : M → MachineView I) (says : L
         other = λ i c e. other;
         headless = λ none. absurd (no_none said (sym is ∙ none));
         full = λ err. absurd (cc err);
+        reports = nothing_reported (Unfinished id count);
       }
 
   -- the source fails at line 1
   pub plays_input : Plays rules view says scripts Z H text start start engine written written (Err Input)
   plays_input = record {
-    runs = λ not. fault_given rules view says Z H (items_of_text scripts text H) (bad_line (said_of text)) start start engine written written Input tt (start_moments (items_of_text scripts text H)) (λ e. absurd (cc e));
+    runs = λ not. fault_given rules view says Z H (items_of_text scripts text H) (bad_line (said_of text)) start start engine written written Input tt (start_moments (items_of_text scripts text H)) (λ e. absurd (cc e)) (nothing_reported Input);
     moments = start_moments (items_of_text scripts text H);
     refuses = λ other. (tt, runs_start rules view says Z H start engine written sound tells holds);
     other = λ id count e. absurd (cc e);
     headless = λ none. tt;
     full = λ err. absurd (cc err);
+    reports = nothing_reported Input;
   }
 
   -- the script takes its course
@@ -302,6 +316,7 @@ module _ {I M : Type 0} (rules : Rules I) (view : M → MachineView I) (says : L
         other = λ id count e. absurd (never id count e);
         headless = λ none. absurd (no_none said (sym is ∙ none));
         full = λ err other. not_other (scripts.script_of H) said course on (subst (IsOther (scripts.script_of H)) is other);
+        reports = q.reports;
       }
 
   -- line 1 isn't a head

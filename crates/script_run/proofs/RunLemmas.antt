@@ -66,7 +66,7 @@ module _ {I M : Type 0} (rules : Rules I) (view : M → MachineView I) (says : L
   room_compose H (e ∷ K) [] first second = subst (HadRoom rules Z H) (sym (append-nil (e ∷ K))) first
   room_compose H (e ∷ K) (l ∷ L) first second = subst (λ G. file_size rules Z G ≤ 2 ^ 24) (append_assoc H (e ∷ K) (l ∷ L)) second
 
-  report-append : (H K L : List (Entry I)) → report_from says Z H (K ++ L) ≡ report_from says Z H K ++ report_from says Z (H ++ K) L
+  pub report-append : (H K L : List (Entry I)) → report_from says Z H (K ++ L) ≡ report_from says Z H K ++ report_from says Z (H ++ K) L
   report-append H [] L = ap (λ h. report_from says Z h L) (sym (append-nil H))
   report-append H (e ∷ K) L =
       ap (λ l. says Z H e ++ l) (report-append (H ++ e ∷ []) K L ∙ ap (λ h. report_from says Z (H ++ e ∷ []) K ++ report_from says Z h L) (append_assoc H (e ∷ []) K))

@@ -18,8 +18,9 @@ use Rattle.script_run.specs.declared.stop.Stop.TheVariants.{Unformatted, Line, U
 use Rattle.pef_engine.specs.Scripts.{ScriptRules}
 use Rattle.script_run.specs.Items.{rest_of, closing_of}
 use Rattle.script_run.specs.Taking.{GivesOne, GivesEvent}
-use Rattle.script_run.specs.Run.{Runs, StopsFull, IsTaken, Answers, RunsGiven, Takes, Passes, IsStepStop}
+use Rattle.script_run.specs.Run.{Runs, StopsFull, Reports, IsTaken, Answers, RunsGiven, Takes, Passes, IsStepStop}
 use Rattle.script_run.proofs.RunLemmas.{runs_start, runs_compose, moments_of, moments_after}
+use Rattle.script_run.proofs.ReportLemmas.{reports_now, reports_behind}
 use Rattle.script_run.proofs.RoomLemmas.{full_behind}
 
 -- what a line gives
@@ -121,15 +122,15 @@ passes_not text count held source left number p next later Memory gives = tt
 
 -- a fault, wherever it comes
 pub fault_given : {I M : Type 0} (rules : Rules I) (view : M → MachineView I) (says : List ℕ → List (Entry I) → Entry I → List ℕ) (Z : List ℕ) (H : List (Entry I)) (all : List I) (bad : Option ℕ) (start now : BoardView) (engine : Engine M I) (before after : Option (List ℕ)) (stop : Stop) → IsFault stop
-    → LeavesOnly start now (LeavesPrefix rules Z H start.sent all) → (stop ≡ Full → StopsFull rules view says Z H all start now engine before after) → RunsGiven rules view says Z H all bad start now engine before after (Err stop)
-fault_given rules view says Z H all bad start now engine before after Input fault m full = record { answers = tt; number = tt; moments = m; runs = λ h. absurd h; full = λ err. absurd (cc err) }
-fault_given rules view says Z H all bad start now engine before after Disk fault m full = record { answers = tt; number = tt; moments = m; runs = λ h. absurd h; full = λ err. absurd (cc err) }
-fault_given rules view says Z H all bad start now engine before after Output fault m full = record { answers = tt; number = tt; moments = m; runs = λ h. absurd h; full = λ err. absurd (cc err) }
-fault_given rules view says Z H all bad start now engine before after Memory fault m full = record { answers = tt; number = tt; moments = m; runs = λ h. absurd h; full = λ err. absurd (cc err) }
-fault_given rules view says Z H all bad start now engine before after Full fault m full = record { answers = tt; number = tt; moments = m; runs = λ h. absurd h; full = λ err. full refl }
-fault_given rules view says Z H all bad start now engine before after (Unfinished id count) fault m full = absurd fault
-fault_given rules view says Z H all bad start now engine before after (Line number) fault m full = absurd fault
-fault_given rules view says Z H all bad start now engine before after Unformatted fault m full = absurd fault
+    → LeavesOnly start now (LeavesPrefix rules Z H start.sent all) → (stop ≡ Full → StopsFull rules view says Z H all start now engine before after) → Reports rules says Z H all now before after stop → RunsGiven rules view says Z H all bad start now engine before after (Err stop)
+fault_given rules view says Z H all bad start now engine before after Input fault m full q = record { answers = tt; number = tt; moments = m; runs = λ h. absurd h; full = λ err. absurd (cc err); reports = q }
+fault_given rules view says Z H all bad start now engine before after Disk fault m full q = record { answers = tt; number = tt; moments = m; runs = λ h. absurd h; full = λ err. absurd (cc err); reports = q }
+fault_given rules view says Z H all bad start now engine before after Output fault m full q = record { answers = tt; number = tt; moments = m; runs = λ h. absurd h; full = λ err. absurd (cc err); reports = q }
+fault_given rules view says Z H all bad start now engine before after Memory fault m full q = record { answers = tt; number = tt; moments = m; runs = λ h. absurd h; full = λ err. absurd (cc err); reports = q }
+fault_given rules view says Z H all bad start now engine before after Full fault m full q = record { answers = tt; number = tt; moments = m; runs = λ h. absurd h; full = λ err. full refl; reports = q }
+fault_given rules view says Z H all bad start now engine before after (Unfinished id count) fault m full q = absurd fault
+fault_given rules view says Z H all bad start now engine before after (Line number) fault m full q = absurd fault
+fault_given rules view says Z H all bad start now engine before after Unformatted fault m full q = absurd fault
 
 module _ {I M : Type 0} (rules : Rules I) (view : M → MachineView I) (says : List ℕ → List (Entry I) → Entry I → List ℕ) (scripts : ScriptRules I) (Z : List ℕ) (H : List (Entry I)) (text : List ℕ) (count taken : ℕ) (start : BoardView) where
   -- all that the lines give
@@ -200,11 +201,12 @@ module _ {I M : Type 0} (rules : Rules I) (view : M → MachineView I) (says : L
         moments = moments_of rules view says Z H t.so_far [] all start now engine before after t.runs is;
         runs = λ _. same_items t.so_far now engine before after t.runs (sym (append-nil t.so_far) ∙ is);
         full = λ err. absurd (cc err);
+        reports = reports_now rules view says Z H t.so_far [] all start now engine before after (Line number) t.runs is;
       }
 
   pub fault_text : (now : BoardView) (engine : Engine M I) (before after : Option (List ℕ)) (stop : Stop) → IsFault stop → LeavesOnly start now (LeavesPrefix rules Z H start.sent all)
-      → (stop ≡ Full → StopsFull rules view says Z H all start now engine before after) → RunsGiven rules view says Z H all (given (lines_of text) count 2).bad start now engine before after (Err stop)
-  fault_text now engine before after stop fault m full = fault_given rules view says Z H all (given (lines_of text) count 2).bad start now engine before after stop fault m full
+      → (stop ≡ Full → StopsFull rules view says Z H all start now engine before after) → Reports rules says Z H all now before after stop → RunsGiven rules view says Z H all (given (lines_of text) count 2).bad start now engine before after (Err stop)
+  fault_text now engine before after stop fault m full q = fault_given rules view says Z H all (given (lines_of text) count 2).bad start now engine before after stop fault m full q
 
   pub takes_moments : (now : BoardView) (engine : Engine M I) (before after : Option (List ℕ)) (held : List ℕ) (source : Option (List ℕ)) (skip left number items : ℕ)
       → (t : Takes rules view says scripts Z H text count taken start now engine before after held source skip left number items) → LeavesOnly start now (LeavesPrefix rules Z H start.sent all)
@@ -218,6 +220,7 @@ module _ {I M : Type 0} (rules : Rules I) (view : M → MachineView I) (says : L
   stops_next now engine before after held source skip left number items t next later (Line bad) gives =
       subst (λ n. RunsGiven rules view says Z H all (given (lines_of text) count 2).bad start now engine before after (Err (Line n))) (sym gives.0) (stops_text now engine before after held source skip left number items t gives.1)
   stops_next now engine before after held source skip left number items t next later Input gives = fault_text now engine before after Input tt (takes_moments now engine before after held source skip left number items t) (λ e. absurd (cc e))
+      (reports_now rules view says Z H t.so_far (rest_of scripts skip (given (lines_of t.rest) left number)) all start now engine before after Input t.runs t.split)
   stops_next now engine before after held source skip left number items t next later Unformatted gives = absurd gives
   stops_next now engine before after held source skip left number items t next later (Unfinished id n) gives = absurd gives
   stops_next now engine before after held source skip left number items t next later Disk gives = absurd gives
@@ -230,13 +233,15 @@ module _ {I M : Type 0} (rules : Rules I) (view : M → MachineView I) (says : L
       → (t : Takes rules view says scripts Z H text count taken start now engine one two held source skip left number items) → GivesOne t.rest left number next later octets → skip ≡ 0 → IsStepStop stop
       → LeavesOnly now new (LeavesPrefix rules Z (H ++ t.runs.entries) now.sent (scripts.event octets ∷ []))
       → (stop ≡ Full → StopsFull rules view says Z (H ++ t.runs.entries) (scripts.event octets ∷ []) now new after_it two three)
+      → Reports rules says Z (H ++ t.runs.entries) (scripts.event octets ∷ []) new two three stop
       → RunsGiven rules view says Z H all (given (lines_of text) count 2).bad start new after_it one three (Err stop)
-  event_fails now new engine after_it one two three held next source later skip left number items octets stop t event none step m full =
+  event_fails now new engine after_it one two three held next source later skip left number items octets stop t event none step m full q =
       let rest = rest_of scripts skip (given (lines_of event.rest) (left - 1) (number + 1)) in
       let is = event_first now engine one two held next source later skip left number items octets t event none in
       fault_text new after_it one three stop (step_fault stop step)
       (moments_after rules view says Z H t.so_far (scripts.event octets ∷ []) rest all start now new engine one two t.runs m is)
       (λ e. full_behind rules view says Z H t.so_far (scripts.event octets ∷ []) rest all start now new engine after_it one two three t.runs (full e) is)
+      (reports_behind rules view says Z H t.so_far (scripts.event octets ∷ []) rest all start now new engine one two three stop t.runs q is)
 
   close_is : (now : BoardView) (engine : Engine M I) (before after : Option (List ℕ)) (held : List ℕ) (source : Option (List ℕ)) (skip left number items : ℕ)
       → (t : Takes rules view says scripts Z H text count taken start now engine before after held source skip left number items) → given (lines_of t.rest) left number ≡ record { events = []; bad = None } → t.so_far ++ scripts.closing ∷ [] ≡ all
@@ -255,6 +260,7 @@ module _ {I M : Type 0} (rules : Rules I) (view : M → MachineView I) (says : L
         moments = moments_of rules view says Z H (t.so_far ++ scripts.closing ∷ []) [] all start new after_it one three whole (append-nil (t.so_far ++ scripts.closing ∷ []) ∙ is);
         runs = λ _. same_items (t.so_far ++ scripts.closing ∷ []) new after_it one three whole is;
         full = λ err. absurd (cc err);
+        reports = tt;
       }
 
   -- the closing item is not taken, or not settled
@@ -262,9 +268,11 @@ module _ {I M : Type 0} (rules : Rules I) (view : M → MachineView I) (says : L
       → (t : Takes rules view says scripts Z H text count taken start now engine one two held source skip left number items) → given (lines_of t.rest) left number ≡ record { events = []; bad = None } → IsStepStop stop
       → LeavesOnly now new (LeavesPrefix rules Z (H ++ t.runs.entries) now.sent (scripts.closing ∷ []))
       → (stop ≡ Full → StopsFull rules view says Z (H ++ t.runs.entries) (scripts.closing ∷ []) now new after_it two three)
+      → Reports rules says Z (H ++ t.runs.entries) (scripts.closing ∷ []) new two three stop
       → RunsGiven rules view says Z H all (given (lines_of text) count 2).bad start new after_it one three (Err stop)
-  close_fails now new engine after_it one two three held source skip left number items stop t ended step m full =
+  close_fails now new engine after_it one two three held source skip left number items stop t ended step m full q =
       let is = close_is now engine one two held source skip left number items t ended in
       fault_text new after_it one three stop (step_fault stop step)
       (moments_after rules view says Z H t.so_far (scripts.closing ∷ []) [] all start now new engine one two t.runs m is)
       (λ e. full_behind rules view says Z H t.so_far (scripts.closing ∷ []) [] all start now new engine after_it one two three t.runs (full e) is)
+      (reports_behind rules view says Z H t.so_far (scripts.closing ∷ []) [] all start now new engine one two three stop t.runs q is)

@@ -24,9 +24,9 @@ use Rattle.pef_engine.specs.Scripts.{ScriptRules}
 use Rattle.script_run.specs.Items.{IsOther, items_of_text}
 use Rattle.script_run.specs.Report.{report_from}
 use Rattle.script_run.specs.Room.{HadRoom, HasLimit}
-use Rattle.script_run.specs.Run.{Runs, StopsFull, ComesNext, IsTaken}
+use Rattle.script_run.specs.Run.{Runs, StopsFull, Reports, ComesNext, IsTaken}
 use Rattle.script_run.specs.Top.{IsUntouched, RunKeeps, RunTakes, ReturnLeft, IsFullAt}
-use Rattle.script_run.specs.Playing.{Plays, Performs, IsOpeningStop, AnswersNone}
+use Rattle.script_run.specs.Playing.{Plays, Performs, Reported, IsOpeningStop, AnswersNone}
 use Rattle.script_run.proofs.RunLemmas.{more_items}
 use Rattle.script_run.proofs.PlayLemmas.{none_of_other}
 
@@ -85,6 +85,7 @@ module _ {I M : Type 0} (rules : Rules I) (view : M → MachineView I) (says : L
         stored = ap entry_tolds is;
         lawful = subst (LawfulFrom rules Z H) (sym is) r.lawful;
         room = subst (HadRoom rules Z H) (sym is) r.room;
+        stands = subst (λ K. Stands rules Z (H ++ K) new.octets) (sym is) (subst (λ (l : List (List ℕ)). image.Stands rules.kind Z l new.octets) (append-nil (map rules.encode (H ++ r.entries))) r.holds.stored.at.stands);
         lasting = λ c now. subst (λ K. Stands rules Z (H ++ K) c) (sym is) (images_stand _ _ _ new engine.journal r.holds.stored c now);
         written = λ text is_before. r.written text is_before ∙ ap (λ K. Some (text ++ K)) (ap (report_from says Z H) (sym is) ∙ sym (append-nil (report_from says Z H (crash_free_run rules Z H items (entry_tolds r.entries)))));
       }
@@ -118,18 +119,40 @@ module _ {I M : Type 0} (rules : Rules I) (view : M → MachineView I) (says : L
         too_much = q.too_much;
       }
 
+  -- what was taken is the beginning of the run without a crash
+  begins_run : (items rest : List I) (K : List (Entry I)) → LawfulFrom rules Z H K → entry_items K ++ rest ≡ items → IsPrefixOf K (crash_free_run rules Z H items (entry_tolds K))
+  begins_run items rest K lawful taken =
+      (crash_free_run rules Z (H ++ K) rest [], sym (ap (λ i. crash_free_run rules Z H i (entry_tolds K)) (sym taken) ∙ ap (λ t. crash_free_run rules Z H (entry_items K ++ rest) t) (sym (append-nil (entry_tolds K))) ∙ run_goes_on rules Z H K rest [] lawful))
+
+  pub reported_of : (items : List I) (new : BoardView) (before after : Option (List ℕ)) (stop : Stop) → Reports rules says Z H items new before after stop → Reported rules says Z H items new before after stop
+  reported_of items new before after stop q = record {
+    entries = q.entries;
+    stored = record { is_prefix = begins_run items q.rest q.entries q.lawful q.taken; lasting = inr q.stored };
+    all = q.all;
+    written = q.written;
+  }
+
+  -- nothing was taken, and nothing reported
+  pub reported_none : (items : List I) (new : BoardView) (before : Option (List ℕ)) (stop : Stop) → Stands rules Z H new.octets → Reported rules says Z H items new before before stop
+  reported_none items new before stop stands = record {
+    entries = [];
+    stored = record { is_prefix = (crash_free_run rules Z H items [], refl); lasting = inl refl };
+    all = λ not. subst (λ G. Stands rules Z G new.octets) (sym (append-nil H)) stands;
+    written = λ old is. ([], is ∙ ap Some (sym (append-nil old)), ([], refl), λ not. refl);
+  }
+
 module _ {I M : Type 0} (rules : Rules I) (view : M → MachineView I) (says : List ℕ → List (Entry I) → Entry I → List ℕ) (scripts : ScriptRules I) (Z : List ℕ) (H : List (Entry I)) (text : List ℕ) (old : BoardView) where
   -- the file is not opened
-  pub performs_not : (new : BoardView) (before : Option (List ℕ)) (stop : Stop) → RunKeeps rules Z H (items_of_text scripts text H) old new → IsOpeningStop stop → (stop ≡ Unformatted → ⊥) → (stop ≡ Full → HasLimit view) → IsUntouched old new
+  pub performs_not : (new : BoardView) (before : Option (List ℕ)) (stop : Stop) → RunKeeps rules Z H (items_of_text scripts text H) old new → IsOpeningStop stop → (stop ≡ Unformatted → ⊥) → (stop ≡ Full → HasLimit view) → IsUntouched old new → Stands rules Z H new.octets
       → Performs rules view says scripts Z H text old new before before (Err stop)
-  performs_not new before Unformatted keeps opening formatted over same = absurd (formatted refl)
-  performs_not new before (Line number) keeps opening formatted over same = absurd opening
-  performs_not new before (Unfinished id count) keeps opening formatted over same = absurd opening
-  performs_not new before Input keeps opening formatted over same = absurd opening
-  performs_not new before Output keeps opening formatted over same = absurd opening
-  performs_not new before Disk keeps opening formatted over same = record { keeps = keeps; takes = λ r. absurd r; idle = λ said taken. absurd taken; number = tt; refused = λ id count e. same; headless = λ none. (same, tt); answers = λ not. tt; refuses = λ o. tt; other = λ id count e. absurd (cc e); full = λ e. absurd (cc e) }
-  performs_not new before Memory keeps opening formatted over same = record { keeps = keeps; takes = λ r. absurd r; idle = λ said taken. absurd taken; number = tt; refused = λ id count e. same; headless = λ none. (same, tt); answers = λ not. tt; refuses = λ o. tt; other = λ id count e. absurd (cc e); full = λ e. absurd (cc e) }
-  performs_not new before Full keeps opening formatted over same = record { keeps = keeps; takes = λ r. absurd r; idle = λ said taken. absurd taken; number = tt; refused = λ id count e. same; headless = λ none. (same, over refl); answers = λ not. tt; refuses = λ o. over refl; other = λ id count e. absurd (cc e); full = λ e. inr (over refl) }
+  performs_not new before Unformatted keeps opening formatted over same stands = absurd (formatted refl)
+  performs_not new before (Line number) keeps opening formatted over same stands = absurd opening
+  performs_not new before (Unfinished id count) keeps opening formatted over same stands = absurd opening
+  performs_not new before Input keeps opening formatted over same stands = absurd opening
+  performs_not new before Output keeps opening formatted over same stands = absurd opening
+  performs_not new before Disk keeps opening formatted over same stands = record { keeps = keeps; takes = λ r. absurd r; idle = λ said taken. absurd taken; number = tt; refused = λ id count e. same; headless = λ none. (same, tt); answers = λ not. tt; refuses = λ o. tt; other = λ id count e. absurd (cc e); full = λ e. absurd (cc e); reported = reported_none rules view says Z H (items_of_text scripts text H) new before Disk stands }
+  performs_not new before Memory keeps opening formatted over same stands = record { keeps = keeps; takes = λ r. absurd r; idle = λ said taken. absurd taken; number = tt; refused = λ id count e. same; headless = λ none. (same, tt); answers = λ not. tt; refuses = λ o. tt; other = λ id count e. absurd (cc e); full = λ e. absurd (cc e); reported = reported_none rules view says Z H (items_of_text scripts text H) new before Memory stands }
+  performs_not new before Full keeps opening formatted over same stands = record { keeps = keeps; takes = λ r. absurd r; idle = λ said taken. absurd taken; number = tt; refused = λ id count e. same; headless = λ none. (same, over refl); answers = λ not. tt; refuses = λ o. over refl; other = λ id count e. absurd (cc e); full = λ e. inr (over refl); reported = reported_none rules view says Z H (items_of_text scripts text H) new before Full stands }
 
   -- the file is opened, and the script is run
   module _ (mid new : BoardView) (engine : Engine M I) (before after : Option (List ℕ)) (agrees : Agrees rules (view engine.machine)) (stands : Stands rules Z H old.octets) (first : SyncsFirst old mid (LeavesPrefix rules Z H old.sent [])) (sent : mid.sent ≡ old.sent) (sound : IsSound new) (tells : IsTrue new.tells) where
@@ -151,6 +174,7 @@ module _ {I M : Type 0} (rules : Rules I) (view : M → MachineView I) (says : L
           refuses = λ o. (plays.refuses o).0;
           other = λ id count e. absurd (cc e);
           full = λ e. absurd (cc e);
+          reported = tt;
         }
     performs (Err (Line number)) idle refused headless plays =
         let not : IsOther (scripts.script_of H) (said_of text) → ⊥ = λ o. (plays.refuses o).0 in
@@ -165,6 +189,7 @@ module _ {I M : Type 0} (rules : Rules I) (view : M → MachineView I) (says : L
           refuses = λ o. (plays.refuses o).0;
           other = λ id count e. absurd (cc e);
           full = λ e. absurd (cc e);
+          reported = reported_of rules view says Z H (items_of_text scripts text H) new before after (Line number) plays.reports;
         }
     performs (Err (Unfinished id count)) idle refused headless plays =
         let o = plays.other id count refl in
@@ -180,6 +205,7 @@ module _ {I M : Type 0} (rules : Rules I) (view : M → MachineView I) (says : L
           refuses = λ o. (plays.refuses o).0;
           other = λ i c e. o;
           full = λ e. absurd (cc e);
+          reported = reported_of rules view says Z H (items_of_text scripts text H) new before after (Unfinished id count) plays.reports;
         }
     performs (Err Unformatted) idle refused headless plays = record {
       keeps = run_keeps rules view says Z H (items_of_text scripts text H) old mid new stands first sent plays.moments sound tells;
@@ -192,6 +218,7 @@ module _ {I M : Type 0} (rules : Rules I) (view : M → MachineView I) (says : L
       refuses = λ o. (plays.refuses o).0;
       other = λ id count e. absurd (cc e);
       full = λ e. absurd (cc e);
+      reported = reported_of rules view says Z H (items_of_text scripts text H) new before after Unformatted plays.reports;
     }
     performs (Err Input) idle refused headless plays = record {
       keeps = run_keeps rules view says Z H (items_of_text scripts text H) old mid new stands first sent plays.moments sound tells;
@@ -204,6 +231,7 @@ module _ {I M : Type 0} (rules : Rules I) (view : M → MachineView I) (says : L
       refuses = λ o. (plays.refuses o).0;
       other = λ id count e. absurd (cc e);
       full = λ e. absurd (cc e);
+      reported = reported_of rules view says Z H (items_of_text scripts text H) new before after Input plays.reports;
     }
     performs (Err Disk) idle refused headless plays = record {
       keeps = run_keeps rules view says Z H (items_of_text scripts text H) old mid new stands first sent plays.moments sound tells;
@@ -216,6 +244,7 @@ module _ {I M : Type 0} (rules : Rules I) (view : M → MachineView I) (says : L
       refuses = λ o. (plays.refuses o).0;
       other = λ id count e. absurd (cc e);
       full = λ e. absurd (cc e);
+      reported = reported_of rules view says Z H (items_of_text scripts text H) new before after Disk plays.reports;
     }
     performs (Err Output) idle refused headless plays = record {
       keeps = run_keeps rules view says Z H (items_of_text scripts text H) old mid new stands first sent plays.moments sound tells;
@@ -228,6 +257,7 @@ module _ {I M : Type 0} (rules : Rules I) (view : M → MachineView I) (says : L
       refuses = λ o. (plays.refuses o).0;
       other = λ id count e. absurd (cc e);
       full = λ e. absurd (cc e);
+      reported = reported_of rules view says Z H (items_of_text scripts text H) new before after Output plays.reports;
     }
     performs (Err Memory) idle refused headless plays = record {
       keeps = run_keeps rules view says Z H (items_of_text scripts text H) old mid new stands first sent plays.moments sound tells;
@@ -240,6 +270,7 @@ module _ {I M : Type 0} (rules : Rules I) (view : M → MachineView I) (says : L
       refuses = λ o. (plays.refuses o).0;
       other = λ id count e. absurd (cc e);
       full = λ e. absurd (cc e);
+      reported = reported_of rules view says Z H (items_of_text scripts text H) new before after Memory plays.reports;
     }
     performs (Err Full) idle refused headless plays = record {
       keeps = run_keeps rules view says Z H (items_of_text scripts text H) old mid new stands first sent plays.moments sound tells;
@@ -252,6 +283,7 @@ module _ {I M : Type 0} (rules : Rules I) (view : M → MachineView I) (says : L
       refuses = λ o. (plays.refuses o).0;
       other = λ id count e. absurd (cc e);
       full = λ e. inl (full_at rules view says Z H (items_of_text scripts text H) old mid new engine before after sent ((plays.runs (plays.full e)).full e));
+      reported = reported_of rules view says Z H (items_of_text scripts text H) new before after Full plays.reports;
     }
 
 pub opening_none : {I M : Type 0} (A : Type 0) (view : M → MachineView I) (stop : Stop) → IsOpeningStop stop → (stop ≡ Full → HasLimit view) → AnswersNone {A = A} view (Err stop)

@@ -1,21 +1,22 @@
 -- What is done with a whole text.
-use Rattle.std.specs.Prelude.{◌≡◌, ◌⊎◌, ⊤, ℕ, List, [], ◌++◌, length, Option, None, IsSome, IfSome, Result, Ok, Err, IsErrOf, IfOk}
+use Rattle.std.specs.Prelude.{◌≡◌, ◌⊎◌, ⊤, ℕ, List, [], ◌++◌, length, Option, Some, None, IsSome, IfSome, Result, Ok, Err, IsErrOf, IfOk, IfErr}
 use Rattle.board_core.specs.declared.step.Told.{Told}
 use Rattle.board_core.specs.Board.{BoardView, LeavesOnly, tolds_of}
 use Rattle.pef_engine.specs.declared.entry.Entry.{Entry}
 use Rattle.pef_engine.specs.declared.engine.Engine.{Engine}
 use Rattle.pef_engine.specs.declared.script.Script.{Script}
-use Rattle.pef_engine.specs.Rules.{Rules}
+use Rattle.pef_engine.specs.Rules.{Rules, Stands}
 use Rattle.pef_engine.specs.MachineView.{MachineView}
-use Rattle.pef_engine.specs.CrashFree.{crash_free_run, LeavesPrefix}
+use Rattle.pef_engine.specs.CrashFree.{crash_free_run, LeavesPrefix, IsPrefixOf}
 use Rattle.script_text.specs.Script.{said_of, bad_line}
 use Rattle.script_run.specs.declared.stop.Stop.{Stop}
 use Rattle.script_run.specs.declared.stop.Stop.TheVariants.{Unformatted, Line, Unfinished, Input, Disk, Output, Full, Memory}
 use Rattle.pef_engine.specs.Scripts.{ScriptRules}
 use Rattle.script_run.specs.Items.{IsOther, items_of_text}
-use Rattle.script_run.specs.Top.{RunKeeps, RunTakes, IsFullAt, IsUntouched}
+use Rattle.script_run.specs.Top.{RunKeeps, RunTakes, IsFullAt, IsUntouched, AreStored}
+use Rattle.script_run.specs.Report.{report_from}
 use Rattle.script_run.specs.Room.{HasLimit}
-use Rattle.script_run.specs.Run.{Runs, IsTaken, Answers, RunsGiven}
+use Rattle.script_run.specs.Run.{Runs, IsTaken, Answers, RunsGiven, Reports}
 
 -- what it may answer where another script is unfinished: it names that one, unless something failed before, and there is no room only
 -- where a machine's own limit stands against an item
@@ -51,6 +52,7 @@ pub record Plays {I M : Type 0} (rules : Rules I) (view : M → MachineView I) (
   pub other : (id count : ℕ) → result ≡ Err (Unfinished id count) → IsOther (scripts.script_of H) (said_of text)
   pub headless : said_of text ≡ None → AnswersHeadless view result
   pub full : IsErrOf result Full → IsOther (scripts.script_of H) (said_of text) → ⊥
+  pub reports : IfErr result (λ stop. Reports rules says Z H (items_of_text scripts text H) now before after stop)
 
 -- it answers of the text, and all that it took was reported
 abbrev pub IsReported : {A : Type 0} → Result A Stop → Type 0
@@ -76,6 +78,14 @@ AnswersNone view (Err Output) = ⊥
 AnswersNone view (Err Full) = HasLimit view
 AnswersNone view (Err Memory) = ⊤
 
+-- what was written is the report of these entries, or where the sink failed a part of it; unless the disk failed they are all that the
+-- file has
+pub record Reported {I : Type 0} (rules : Rules I) (says : List ℕ → List (Entry I) → Entry I → List ℕ) (Z : List ℕ) (H : List (Entry I)) (items : List I) (new : BoardView) (before after : Option (List ℕ)) (stop : Stop) : Type 0 where
+  pub entries : List (Entry I)
+  pub stored : AreStored rules Z H items new entries
+  pub all : (stop ≡ Disk → ⊥) → Stands rules Z (H ++ entries) new.octets
+  pub written : (old : List ℕ) → before ≡ Some old → (text : List ℕ) × (after ≡ Some (old ++ text)) × IsPrefixOf text (report_from says Z H entries) × ((stop ≡ Output → ⊥) → text ≡ report_from says Z H entries)
+
 -- What a run over a file that stands for H does with a text: the crash-free run of the items that the text gives behind H.
 pub record Performs {I M : Type 0} (rules : Rules I) (view : M → MachineView I) (says : List ℕ → List (Entry I) → Entry I → List ℕ) (scripts : ScriptRules I) (Z : List ℕ) (H : List (Entry I)) (text : List ℕ) (old new : BoardView) (before after : Option (List ℕ)) (result : Result ℕ Stop) : Type 0 where
   pub keeps : RunKeeps rules Z H (items_of_text scripts text H) old new
@@ -88,6 +98,7 @@ pub record Performs {I M : Type 0} (rules : Rules I) (view : M → MachineView I
   pub refuses : IsOther (scripts.script_of H) (said_of text) → AnswersOther view (scripts.script_of H) result
   pub other : (id count : ℕ) → IsErrOf result (Unfinished id count) → IsOther (scripts.script_of H) (said_of text)
   pub full : IsErrOf result Full → IsFullAt rules view Z H (items_of_text scripts text H) old new ⊎ HasLimit view
+  pub reported : IfErr result (λ stop. Reported rules says Z H (items_of_text scripts text H) new before after stop)
 
 -- what an opening may stop with
 abbrev pub IsOpeningStop : Stop → Type 0

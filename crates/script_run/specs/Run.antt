@@ -1,12 +1,12 @@
 -- What a run has done so far.
-use Rattle.std.specs.Prelude.{◌≡◌, ⊤, ℕ, List, ◌∷◌, ◌++◌, length, Option, Some, None, Result, Ok, Err, IsErrOf, IfOk}
+use Rattle.std.specs.Prelude.{◌≡◌, ⊤, ℕ, List, ◌∷◌, ◌++◌, length, Option, Some, None, Result, Ok, Err, IsErrOf, IfOk, IfErr}
 use Rattle.board_core.specs.declared.step.Step.{Step}
 use Rattle.board_core.specs.Board.{BoardView, LeavesOnly, steps_of, tolds_of}
 use Rattle.pef_engine.specs.declared.entry.Entry.{Entry}
 use Rattle.pef_engine.specs.declared.engine.Engine.{Engine}
-use Rattle.pef_engine.specs.Rules.{Rules, Lawful, LawfulFrom}
+use Rattle.pef_engine.specs.Rules.{Rules, Lawful, LawfulFrom, Stands}
 use Rattle.pef_engine.specs.MachineView.{MachineView}
-use Rattle.pef_engine.specs.CrashFree.{LeavesPrefix, entry_items, entry_tolds, prescribed}
+use Rattle.pef_engine.specs.CrashFree.{LeavesPrefix, entry_items, entry_tolds, prescribed, IsPrefixOf}
 use Rattle.script_text.specs.Lines.{lines_of}
 use Rattle.script_text.specs.Reading.{HasLeft}
 use Rattle.script_text.specs.Script.{given}
@@ -59,6 +59,17 @@ pub record StopsFull {I M : Type 0} (rules : Rules I) (view : M → MachineView 
   pub next : Entry I
   pub comes : ComesNext rules Z (H ++ runs.entries) more next
   pub too_much : IsTooMuch rules view Z (H ++ runs.entries) next
+
+-- It stopped: some of these items were taken, in these entries, which each crash leaves, perhaps with more, and which are all that the
+-- file has unless the disk failed; and what was written is the report of these entries, or where the sink failed a part of it.
+pub record Reports {I : Type 0} (rules : Rules I) (says : List ℕ → List (Entry I) → Entry I → List ℕ) (Z : List ℕ) (H : List (Entry I)) (items : List I) (now : BoardView) (before after : Option (List ℕ)) (stop : Stop) : Type 0 where
+  pub entries : List (Entry I)
+  pub lawful : LawfulFrom rules Z H entries
+  pub rest : List I
+  pub taken : entry_items entries ++ rest ≡ items
+  pub stored : (c : List ℕ) → now.images c → (later : List (Entry I)) × Stands rules Z (H ++ (entries ++ later)) c
+  pub all : (stop ≡ Disk → ⊥) → Stands rules Z (H ++ entries) now.octets
+  pub written : (old : List ℕ) → before ≡ Some old → (text : List ℕ) × (after ≡ Some (old ++ text)) × IsPrefixOf text (report_from says Z H entries) × ((stop ≡ Output → ⊥) → text ≡ report_from says Z H entries)
 
 -- the disk, the sink or the room stopped it, or want of memory
 abbrev pub IsStepStop : Stop → Type 0
@@ -113,6 +124,7 @@ pub record RunsGiven {I M : Type 0} (rules : Rules I) (view : M → MachineView 
   pub moments : LeavesOnly start now (LeavesPrefix rules Z H start.sent items)
   pub runs : IsTaken result → Runs rules view says Z H items start now engine before after
   pub full : IsErrOf result Full → StopsFull rules view says Z H items start now engine before after
+  pub reports : IfErr result (λ stop. Reports rules says Z H items now before after stop)
 
 -- So far these items of a text were taken; the rest of its lines give the others.
 pub record Takes {I M : Type 0} (rules : Rules I) (view : M → MachineView I) (says : List ℕ → List (Entry I) → Entry I → List ℕ) (scripts : ScriptRules I) (Z : List ℕ) (H : List (Entry I)) (text : List ℕ) (count taken : ℕ) (start now : BoardView) (engine : Engine M I) (before after : Option (List ℕ)) (held : List ℕ) (source : Option (List ℕ)) (skip left number items : ℕ) : Type 0 where

@@ -13,8 +13,9 @@ use Rattle.pef_engine.specs.Scripts.{ScriptRules}
 use Rattle.script_run.specs.Items.{IsOther, items_of_text}
 use Rattle.script_run.specs.Report.{report_from, says, ok_line, bad_line_line, unfinished_line}
 use Rattle.script_run.specs.Room.{HadRoom, LacksRoom, IsTooMuch, HasLimit, HasNoLimit}
-use Rattle.script_run.specs.declared.stop.Stop.TheVariants.{Unformatted}
-use Rattle.script_run.specs.Status.{IsOneOf, IsPartOf, last_line}
+use Rattle.script_run.specs.declared.stop.Stop.{Stop}
+use Rattle.script_run.specs.declared.stop.Stop.TheVariants.{Unformatted, Disk}
+use Rattle.script_run.specs.Status.{IsOneOf, IsPartOf, last_line, status_of}
 
 -- what the file stands for at the return, as a read gives it
 abbrev pub ReturnLeft : BoardView → CrashState
@@ -37,6 +38,7 @@ pub record RunTakes {I : Type 0} (rules : Rules I) (says : List ℕ → List (En
   pub stored : entry_tolds (crash_free_run rules Z H items tolds) ≡ tolds
   pub lawful : LawfulFrom rules Z H (crash_free_run rules Z H items tolds)
   pub room : HadRoom rules Z H (crash_free_run rules Z H items tolds)
+  pub stands : Stands rules Z (H ++ crash_free_run rules Z H items tolds) new.octets
   pub lasting : (c : List ℕ) → new.images c → Stands rules Z (H ++ crash_free_run rules Z H items tolds) c
   pub written : (text : List ℕ) → before ≡ Some text → after ≡ Some (text ++ (report_from says Z H (crash_free_run rules Z H items tolds) ++ part))
 
@@ -63,6 +65,27 @@ pub record RunStops {I : Type 0} (rules : Rules I) (says : List ℕ → List (En
   pub part : List ℕ
   pub is_part : IsPartOf part last writes_before writes_after
   pub takes : RunTakes rules says Z H items old new before after part
+
+-- these entries are the first of the run without a crash, and where there are any each crash leaves them, perhaps with more
+pub record AreStored {I : Type 0} (rules : Rules I) (Z : List ℕ) (H : List (Entry I)) (items : List I) (new : BoardView) (entries : List (Entry I)) : Type 0 where
+  pub is_prefix : IsPrefixOf entries (crash_free_run rules Z H items (entry_tolds entries))
+  pub lasting : (entries ≡ []) ⊎ ((c : List ℕ) → new.images c → (more : List (Entry I)) × Stands rules Z (H ++ (entries ++ more)) c)
+
+-- status 6, 7, 9 or 10: only what is stored was reported, and all of it unless the disk failed; and the last line came, or part of it
+-- where the sink failed
+pub record RunReports {I : Type 0} (rules : Rules I) (says : List ℕ → List (Entry I) → Entry I → List ℕ) (Z : List ℕ) (H : List (Entry I)) (items : List I) (new : BoardView) (before after : Option (List ℕ)) (writes_before writes_after : ℕ) (stop : Stop) : Type 0 where
+  pub entries : List (Entry I)
+  pub stored : AreStored rules Z H items new entries
+  pub all : (stop ≡ Disk → ⊥) → Stands rules Z (H ++ entries) new.octets
+  pub written : (text : List ℕ) → before ≡ Some text → (part : List ℕ) × (after ≡ Some (text ++ (report_from says Z H entries ++ part))) × IsPartOf part (last_line stop) writes_before writes_after
+
+-- status 8: part of the report of all that is stored was written, or where all items were taken the report and part of the last line
+pub record RunIsCut {I : Type 0} (rules : Rules I) (says : List ℕ → List (Entry I) → Entry I → List ℕ) (Z : List ℕ) (H : List (Entry I)) (items : List I) (new : BoardView) (before after : Option (List ℕ)) : Type 0 where
+  pub entries : List (Entry I)
+  pub stored : AreStored rules Z H items new entries
+  pub all : Stands rules Z (H ++ entries) new.octets
+  pub written : (text : List ℕ) → before ≡ Some text → (part : List ℕ) × (after ≡ Some (text ++ part))
+      × (IsPrefixOf part (report_from says Z H entries) ⊎ ((entry_items entries ≡ items) × IsPrefixOf part (report_from says Z H entries ++ ok_line (length items))))
 
 -- nothing was written and nothing issued
 pub record IsUntouched (old new : BoardView) : Type 0 where
@@ -92,6 +115,9 @@ pub record RunAnswers {I M : Type 0} (rules : Rules I) (view : M → MachineView
   -- where another script is unfinished, or line 1 is no head, nothing is written and nothing issued
   pub untouched : (status ≡ 5) ⊎ (said_of text ≡ None) → IsUntouched old new
   pub formatted : status ≢ 3
+  -- whatever else stopped it, it reported what is stored, and nothing else
+  pub stopped : IsOneOf status (6 ∷ 7 ∷ 9 ∷ 10 ∷ []) → (stop : Stop) × (status ≡ status_of stop) × RunReports rules (says rules scripts) Z H (items_of_text scripts text H) new before after writes_before writes_after stop
+  pub cut : status ≡ 8 → RunIsCut rules (says rules scripts) Z H (items_of_text scripts text H) new before after
   -- 9 exactly where the next entry of the run without a crash has no room, unless something failed before
   pub full : status ≡ 9 → IsFullAt rules view Z H (items_of_text scripts text H) old new ⊎ HasLimit view
   pub is_full : IsSome (said_of text) → (IsOther (scripts.script_of H) (said_of text) → ⊥) → (tolds more : List Told) → tolds_of new.sent ≡ tolds_of old.sent ++ tolds
@@ -115,6 +141,9 @@ pub record RunCall {I M : Type 0} (rules : Rules I) (view : M → MachineView I)
       × (new.octets ≡ old.octets) × (new.sent ≡ old.sent) × WritesNothing old new
   -- at 3 the last line alone is written, or part of it where the sink failed
   pub says_unformatted : status ≡ 3 → (text : List ℕ) → before ≡ Some text → (part : List ℕ) × (after ≡ Some (text ++ part)) × IsPartOf part (last_line Unformatted) writes_before writes_after
+  -- where the file stands for none, so it is at each answer
+  pub says_none : IsTrue new.tells → StandsForNone rules old.octets → (stop : Stop) × (status ≡ status_of stop)
+      × ((text : List ℕ) → before ≡ Some text → (part : List ℕ) × (after ≡ Some (text ++ part)) × IsPartOf part (last_line stop) writes_before writes_after)
   -- 6, 7 and 8 only where a count rose
   pub input : status ≡ 6 → Rose reads_before reads_after
   pub disk : status ≡ 7 → Rose old.disk_faults new.disk_faults

@@ -5,7 +5,7 @@ ghost use Rattle.board_core.specs.Causes.{Rose};
 ghost use Rattle.board_core.specs.Source.{Appends};
 ghost use Rattle.pef_engine.specs.declared.entry.Entry.{Entry};
 ghost use Rattle.pef_engine.specs.Rules.{Lawful, IsItem};
-ghost use Rattle.script_run.specs.Report.{act_word, told_word, address_text, outcome_line, says};
+ghost use Rattle.script_run.specs.Report.{told_word, address_text, outcome_line, says};
 
 use crate::stop::Stop;
 use board_core::{Act, Address, Octets, Sink, Step, Told};
@@ -66,18 +66,6 @@ fn outcome_text(step: &Option<Step>, told: Told) -> ReportLine
     }
 }
 
-fn act_name(kind: Act) -> &'static [u8]
-    ensures { result.now ≡ act_word kind }
-{
-    match kind {
-        Act::PowerDown => b"power-down",
-        Act::PowerCycle => b"power-cycle",
-        Act::Reset => b"reset",
-        Act::DiagInt => b"diagnostic",
-        Act::Oem => b"oem",
-    }
-}
-
 fn told_name(told: Told) -> &'static [u8]
     ensures { result.now ≡ told_word told }
 {
@@ -102,7 +90,7 @@ fn act_text(kind: Act, id: u16, told: Told) -> ReportLine
     let _ = encode_to_slice(id.to_be_bytes(), &mut digits);
     let mut line = ReportLine::new();
     let _ = line.extend(b"act ".as_slice());
-    let _ = line.extend(act_name(kind));
+    let _ = line.extend(kind.word());
     let _ = line.extend(b" ".as_slice());
     let _ = line.extend(&digits);
     let _ = line.extend(b" ".as_slice());

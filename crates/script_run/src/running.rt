@@ -32,6 +32,7 @@ pub(crate) fn perform<M: Scripted, B: Board, S: Source, K: Sink>(
         × WritesNothing (B.view board.old) (B.view board.new) }
     // nothing is reported then
     ensures quiet { IsErrOf result Stop.Unformatted → out.new ≡ out.old }
+    ensures silent { IsTrue (B.view board.new).tells → StandsForNone M.rules (B.view board.old).octets → out.new ≡ out.old }
     // want of memory comes before the first item, but to a machine that takes memory for its items
     ensures memory { IsErrOf result Stop.Memory → IsTrue M.rules.takes_memory
         ⊎ (IsTrue (B.view board.new).tells → ((B.view board.new).octets ≡ (B.view board.old).octets) × ((B.view board.new).sent ≡ (B.view board.old).sent)) }

@@ -7,7 +7,7 @@ ghost use Rattle.pef_engine.specs.declared.entry.Entry.{Entry};
 ghost use Rattle.pef_engine.specs.CrashFree.{LeavesPrefix};
 ghost use Rattle.pef_engine.specs.Engine.{Holds, IsLive, HasPlace};
 ghost use Rattle.script_run.specs.Report.{says};
-ghost use Rattle.script_run.specs.Run.{Runs, StopsFull, MovesOn, IsStepStop};
+ghost use Rattle.script_run.specs.Run.{Runs, StopsFull, Reports, MovesOn, IsStepStop};
 
 use crate::report::{say_outcome, say_taken};
 use crate::stop::{Stop, stop_of};
@@ -28,6 +28,9 @@ pub(crate) fn settle_and_say<M: Scripted, B: Board, K: Sink>(
     ensures full { IsTrue (B.view board.new).tells → (Z : List ℕ) (H : List (Entry M.Item)) →
         Holds M.rules M.view Z H (B.view board.old) engine.old → IsErrOf result Stop.Full →
         StopsFull M.rules M.view (says M.rules M.scripts) Z H [] (B.view board.old) (B.view board.new) engine.new (K.written out.old) (K.written out.new) }
+    ensures reports { IsTrue (B.view board.new).tells → (Z : List ℕ) (H : List (Entry M.Item)) →
+        Holds M.rules M.view Z H (B.view board.old) engine.old →
+        IfErr result (λ stop. Reports M.rules (says M.rules M.scripts) Z H [] (B.view board.new) (K.written out.old) (K.written out.new) stop) }
     ensures moments { IsTrue (B.view board.new).tells → (Z : List ℕ) (H : List (Entry M.Item)) →
         Holds M.rules M.view Z H (B.view board.old) engine.old →
         LeavesOnly (B.view board.old) (B.view board.new) (LeavesPrefix M.rules Z H (B.view board.old).sent []) }
@@ -67,6 +70,9 @@ pub(crate) fn take_one<M: Scripted, B: Board, K: Sink>(
     ensures full { IsTrue (B.view board.new).tells → (Z : List ℕ) (H : List (Entry M.Item)) →
         Holds M.rules M.view Z H (B.view board.old) engine.old → IsErrOf result Stop.Full →
         StopsFull M.rules M.view (says M.rules M.scripts) Z H (item ∷ []) (B.view board.old) (B.view board.new) engine.new (K.written out.old) (K.written out.new) }
+    ensures reports { IsTrue (B.view board.new).tells → (Z : List ℕ) (H : List (Entry M.Item)) →
+        Holds M.rules M.view Z H (B.view board.old) engine.old →
+        IfErr result (λ stop. Reports M.rules (says M.rules M.scripts) Z H (item ∷ []) (B.view board.new) (K.written out.old) (K.written out.new) stop) }
     ensures moments { IsTrue (B.view board.new).tells → (Z : List ℕ) (H : List (Entry M.Item)) →
         Holds M.rules M.view Z H (B.view board.old) engine.old →
         LeavesOnly (B.view board.old) (B.view board.new) (LeavesPrefix M.rules Z H (B.view board.old).sent (item ∷ [])) }

@@ -6,7 +6,7 @@ use Rattle.script_text.specs.Script.{given}
 use Rattle.pef_engine.specs.CrashFree.{LeavesPrefix}
 use Rattle.script_run.specs.Report.{says}
 use Rattle.script_run.specs.Items.{rest_of}
-use Rattle.script_run.specs.Run.{Runs, StopsFull}
+use Rattle.script_run.specs.Run.{Runs, StopsFull, Reports}
 use Rattle.script_run.proofs.RunLemmas.{is_err}
 use Rattle.script_run.proofs.TakesLemmas.{step_fault}
 use Rattle.script_run.proofs.PlayLemmas.{first_fails, given_behind, fails_behind, opening_allowed, ready_opened}
@@ -27,6 +27,7 @@ returns-in_err-take_one-clause-runs g c = λ tells Z H text holds unread.
     (view c.args.board.now) (view c.take_one.new.board) c.take_one.new.engine (written c.args.out.now) (written c.take_one.new.out) c.in_err-take_one.field-0.0 (step_fault c.in_err-take_one.field-0.0 c.in_err-take_one.ensures.stops)
     (subst (λ i. LeavesOnly (view c.args.board.now) (view c.take_one.new.board) (LeavesPrefix rules' Z H (view c.args.board.now).sent (i ∷ []))) c.opening.ensures.item (c.take_one.ensures.moments tells Z H holds))
     (λ e. subst (λ i. StopsFull rules' view' says' Z H (i ∷ []) (view c.args.board.now) (view c.take_one.new.board) c.take_one.new.engine (written c.args.out.now) (written c.take_one.new.out)) c.opening.ensures.item (c.in_err-take_one.ensures.full tells Z H holds (is_err e)))
+    (subst (λ i. Reports rules' says' Z H (i ∷ []) (view c.take_one.new.board) (written c.args.out.now) (written c.take_one.new.out) c.in_err-take_one.field-0.0) c.opening.ensures.item (c.in_err-take_one.ensures.reports tells Z H holds))
     refl)
 
 pub returns-in_err-items-clause-runs : goal.returns-in_err-items-clause-runs

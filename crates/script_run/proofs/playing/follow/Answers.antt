@@ -23,7 +23,7 @@ returns-in_err-settle_and_say-clause-runs g c = λ tells Z H text holds unread.
     let q = err_from_is_err_and c.from_residual.result c.from_residual.ensures.1 in
     rw (q.1, q.2) (first_fails rules' view' says' Z H [] items items (given (lines_of text) c.args.head.count 2).bad
     (view c.args.board.now) (view c.settle_and_say.new.board) c.settle_and_say.new.engine (written c.args.out.now) (written c.settle_and_say.new.out) c.in_err-settle_and_say.field-0.0 (step_fault c.in_err-settle_and_say.field-0.0 c.in_err-settle_and_say.ensures.stops)
-    (c.settle_and_say.ensures.moments tells Z H holds) (λ e. c.in_err-settle_and_say.ensures.full tells Z H holds (is_err e)) refl)
+    (c.settle_and_say.ensures.moments tells Z H holds) (λ e. c.in_err-settle_and_say.ensures.full tells Z H holds (is_err e)) (c.in_err-settle_and_say.ensures.reports tells Z H holds) refl)
 
 pub returns-in-Begins-clause-runs : goal.returns-in-Begins-clause-runs
 returns-in-Begins-clause-runs g c = λ tells Z H text holds unread.

@@ -1,4 +1,5 @@
-use Rattle.std.proofs.Common.{◌≡◌, ⊎_elim, ℕ, ◌∙◌, ap}
+use Rattle.std.proofs.Common.{◌≡◌, ⊎_elim, ℕ, sym, ◌∙◌, ap, subst}
+use Rattle.pef_engine.specs.Rules.{Stands}
 use Rattle.script_run.specs.declared.stop.Stop.TheVariants.{Unformatted, Full}
 use Rattle.script_run.specs.Report.{says}
 use Rattle.script_run.specs.Items.{items_of_text}
@@ -19,7 +20,7 @@ returns-in-Err-clause-performs g c = λ tells Z H text lawful stands left.
     let formatted : c.stop_at_opening.result ≡ Unformatted → ⊥ = λ e. ⊎_elim (λ u. opened.formatted (is_err u)) (λ u. opened.unbroken u.0 (is_err u.1)) (c.stop_at_opening.ensures.unformatted e) in
     performs_not rules' view' says' scripts' Z H text (view c.args.board.now) (view c.open.new.board) (written c.args.out.now) c.stop_at_opening.result
     (open_keeps rules' view' says' Z H (items_of_text scripts' text H) (view c.args.board.now) (view c.open.new.board) (g.met.B.Board.sound c.open.new.board) tells opened.sent opened.octets stands opened.any_moment)
-    c.stop_at_opening.ensures.opening formatted (λ e. c.in-Err.ensures.full (is_err (c.stop_at_opening.ensures.full.0 e))) (record { octets = opened.octets; sent = opened.sent })
+    c.stop_at_opening.ensures.opening formatted (λ e. c.in-Err.ensures.full (is_err (c.stop_at_opening.ensures.full.0 e))) (record { octets = opened.octets; sent = opened.sent }) (subst (Stands rules' Z H) (sym opened.octets) stands)
 
 pub returns-in-Err-clause-unformatted : goal.returns-in-Err-clause-unformatted
 returns-in-Err-clause-unformatted g c = λ err tells Z H lawful stands.
@@ -49,5 +50,10 @@ returns-clause-performs g c = λ tells Z H text lawful stands left.
 
 pub returns-clause-nothing : goal.returns-clause-nothing
 returns-clause-nothing g c = λ tells none.
+    let some = c.in-Ok.ensures.stands (c.play.ensures.tells tells) in
+    absurd (none some.0 some.1 some.2 some.3)
+
+pub returns-clause-silent : goal.returns-clause-silent
+returns-clause-silent g c = λ tells none.
     let some = c.in-Ok.ensures.stands (c.play.ensures.tells tells) in
     absurd (none some.0 some.1 some.2 some.3)

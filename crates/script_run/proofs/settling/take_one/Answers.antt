@@ -1,4 +1,5 @@
 use Rattle.std.proofs.Common.{ℕ, List, [], ◌∷◌, ◌++◌, Ok, sym, ap, subst, refl, IsTrue}
+use Rattle.std.proofs.lemmas.Result.{err_from_is_err_and}
 use Rattle.board_core.specs.Board.{BoardView}
 use Rattle.pef_engine.specs.declared.entry.Entry.{Entry}
 use Rattle.pef_engine.specs.declared.entry.Entry.TheVariants.{Item}
@@ -7,6 +8,7 @@ use Rattle.script_run.specs.declared.stop.Stop.{Stop}
 use Rattle.script_run.specs.Report.{says}
 use Rattle.script_run.specs.Run.{Runs, StopsFull}
 use Rattle.script_run.proofs.RunLemmas.{full_not_disk, moments_behind, runs_compose, one_item, appends_ok, on_ok_map, err_is, is_err}
+use Rattle.script_run.proofs.ReportLemmas.{appends_part, if_err_map, reports_failed_first, reports_cut_first, reports_behind}
 use Rattle.script_run.proofs.RoomLemmas.{had_room, full_at_once, full_behind, too_much_item}
 use Rattle.script_run.proofs.Moves.{moves_one, moves_compose}
 use Rattle.pef_engine.proofs.Stored.{lawful-append}
@@ -69,3 +71,29 @@ returns-clause-moves g c =
     on_ok_map c.settle_and_say.result
     (λ m. moves_compose rules' (view' c.args.engine.now.machine) (view' c.take.new.self.machine) (view' c.settle_and_say.new.engine.machine) (c.args.item ∷ []) [] first m)
     c.settle_and_say.ensures.moves
+
+pub returns-in-Err-clause-reports : goal.returns-in-Err-clause-reports
+returns-in-Err-clause-reports g c = λ tells Z H holds.
+    reports_failed_first g.M.Machine.rules g.M.Machine.view (says g.M.Machine.rules g.M.Scripted.scripts) Z H (c.args.item ∷ []) (g.B.Board.view c.args.board.now) (g.B.Board.view c.take.new.board) c.take.new.self (g.K.Sink.written c.args.out.now) c.stop_of.result
+    (c.take.ensures.any_moment tells Z H holds) (g.met.B.Board.sound c.take.new.board) tells (λ not. (c.in-Err.ensures.taken tells Z H holds).refused refl (λ disk. not (c.stop_of.ensures.disk.1 (err_is disk))))
+
+pub returns-in_err-say_taken-clause-reports : goal.returns-in_err-say_taken-clause-reports
+returns-in_err-say_taken-clause-reports g c = λ tells Z H holds.
+    let rules' = g.M.Machine.rules in
+    let view' = g.M.Machine.view in
+    let says' = says rules' g.M.Scripted.scripts in
+    let allowed = ((g.met.M.Machine.agrees c.args.engine.now.machine).allowed Z H (Item c.args.item) holds.lawful holds.shows).0 c.requires.allowed in
+    let after = c.in-Ok.ensures.taken tells Z H holds in
+    let q = err_from_is_err_and c.from_residual.result c.from_residual.ensures.1 in
+    let said = appends_part (says' Z H (Item c.args.item)) (g.K.Sink.written c.args.out.now) (g.K.Sink.written c.say_taken.new.out) c.in_err-say_taken.field-0.0
+    (c.in_err-say_taken.ensures.said Z H (lawful-append rules' Z H (Item c.args.item) holds.lawful allowed) (subst (λ m. (view' m).shows Z (H ++ Item c.args.item ∷ [])) (sym c.machine.ensures) after.taken.shows)) in
+    rw (q.1, q.2) (reports_cut_first rules' view' says' Z H c.args.item (g.B.Board.view c.take.new.board) c.take.new.self (g.K.Sink.written c.args.out.now) (g.K.Sink.written c.say_taken.new.out) c.in_err-say_taken.field-0.0
+    allowed after.taken said (err_is (c.in_err-say_taken.ensures.output refl).0))
+
+pub returns-clause-reports : goal.returns-clause-reports
+returns-clause-reports g c = λ tells Z H holds.
+    let q = taken g c tells Z H holds in
+    if_err_map c.settle_and_say.result
+    (λ stop r. reports_behind g.M.Machine.rules g.M.Machine.view (says g.M.Machine.rules g.M.Scripted.scripts) Z H (c.args.item ∷ []) [] [] (c.args.item ∷ []) (g.B.Board.view c.args.board.now) (g.B.Board.view c.take.new.board) (g.B.Board.view c.settle_and_say.new.board) c.take.new.self
+    (g.K.Sink.written c.args.out.now) (g.K.Sink.written c.say_taken.new.out) (g.K.Sink.written c.settle_and_say.new.out) stop q r refl)
+    (c.settle_and_say.ensures.reports tells Z (H ++ q.entries) q.holds)

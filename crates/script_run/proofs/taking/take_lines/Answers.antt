@@ -4,7 +4,7 @@ use Rattle.board_core.specs.Board.{LeavesOnly}
 use Rattle.pef_engine.specs.CrashFree.{LeavesPrefix}
 use Rattle.script_run.specs.Report.{says}
 use Rattle.script_run.specs.Taking.{GivesEvent}
-use Rattle.script_run.specs.Run.{Runs, StopsFull, IsReadyFor}
+use Rattle.script_run.specs.Run.{Runs, StopsFull, Reports, IsReadyFor}
 use Rattle.script_run.proofs.RunLemmas.{is_err}
 use Rattle.script_run.proofs.ScriptsLemmas.{event_allowed, closing_allowed, ready_more}
 use Rattle.script_run.proofs.TakesLemmas.{no_event, one_event, takes_start, takes_skip, takes_event, stops_next, event_fails, ends_text, close_fails}
@@ -62,7 +62,8 @@ returns-in_err-take_one-clause-runs g c = λ tells Z H text holds unread.
     rw (p.1, p.2) (close_fails rules' view' says' scripts' Z H text c.args.count c.args.taken (view c.args.board.now) (view c.lines.board) (view c.take_one.new.board) c.lines.engine c.take_one.new.engine (written c.args.out.now) (written c.lines.out) (written c.take_one.new.out) c.lines.reader (left c.lines.source) c.lines.skip c.lines.left c.lines.number c.lines.items c.in_err-take_one.field-0.0 t ended c.in_err-take_one.ensures.stops
     (subst (λ i. LeavesOnly (view c.lines.board) (view c.take_one.new.board) (LeavesPrefix rules' Z (H ++ t.runs.entries) (view c.lines.board).sent (i ∷ []))) c.closing.ensures (c.take_one.ensures.moments tells Z (H ++ t.runs.entries) t.runs.holds))
     (λ e. subst (λ i. StopsFull rules' view' says' Z (H ++ t.runs.entries) (i ∷ []) (view c.lines.board) (view c.take_one.new.board) c.take_one.new.engine (written c.lines.out) (written c.take_one.new.out)) c.closing.ensures
-    (c.in_err-take_one.ensures.full tells Z (H ++ t.runs.entries) t.runs.holds (is_err e))))
+    (c.in_err-take_one.ensures.full tells Z (H ++ t.runs.entries) t.runs.holds (is_err e)))
+    (subst (λ i. Reports rules' says' Z (H ++ t.runs.entries) (i ∷ []) (view c.take_one.new.board) (written c.lines.out) (written c.take_one.new.out) c.in_err-take_one.field-0.0) c.closing.ensures (c.in_err-take_one.ensures.reports tells Z (H ++ t.runs.entries) t.runs.holds)))
 
 pub returns-in_default-clause-runs : goal.returns-in_default-clause-runs
 returns-in_default-clause-runs g c = λ tells Z H text holds unread.
@@ -133,7 +134,8 @@ returns-in_err-take_one-2-clause-runs g c = λ tells Z H text holds unread.
     rw (p.1, p.2) (event_fails rules' view' says' scripts' Z H text c.args.count c.args.taken (view c.args.board.now) (view c.lines.board) (view c.take_one-in-lines.new.board) c.lines.engine c.take_one-in-lines.new.engine (written c.args.out.now) (written c.lines.out) (written c.take_one-in-lines.new.out) c.lines.reader c.next_event.new.reader (left c.lines.source) (left c.next_event.new.source) c.lines.skip c.lines.left c.lines.number c.lines.items c.in-Some.octets c.in_err-take_one-2.field-0.0 t one none c.in_err-take_one-2.ensures.stops
     (subst (λ i. LeavesOnly (view c.lines.board) (view c.take_one-in-lines.new.board) (LeavesPrefix rules' Z (H ++ t.runs.entries) (view c.lines.board).sent (i ∷ []))) c.event.ensures.item (c.take_one-in-lines.ensures.moments tells Z (H ++ t.runs.entries) t.runs.holds))
     (λ e. subst (λ i. StopsFull rules' view' says' Z (H ++ t.runs.entries) (i ∷ []) (view c.lines.board) (view c.take_one-in-lines.new.board) c.take_one-in-lines.new.engine (written c.lines.out) (written c.take_one-in-lines.new.out)) c.event.ensures.item
-    (c.in_err-take_one-2.ensures.full tells Z (H ++ t.runs.entries) t.runs.holds (is_err e))))
+    (c.in_err-take_one-2.ensures.full tells Z (H ++ t.runs.entries) t.runs.holds (is_err e)))
+    (subst (λ i. Reports rules' says' Z (H ++ t.runs.entries) (i ∷ []) (view c.take_one-in-lines.new.board) (written c.lines.out) (written c.take_one-in-lines.new.out) c.in_err-take_one-2.field-0.0) c.event.ensures.item (c.in_err-take_one-2.ensures.reports tells Z (H ++ t.runs.entries) t.runs.holds)))
 
 pub lines-preserved : goal.lines-preserved
 lines-preserved g c =
