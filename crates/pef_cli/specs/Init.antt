@@ -67,7 +67,7 @@ pub record Inits (old new : BoardView) (source : Option (List ℕ)) (reads_befor
   -- at any moment of the call
   pub moments : IsTrue new.tells → KeepsMoments source old new
   pub issues_nothing : IsTrue new.tells → new.sent ≡ old.sent
-  -- at a refusal, and where a fault came before the first write, nothing is written to the file at any moment
+  -- at a refusal, and where the text could not be read or held, nothing is written to the file at any moment
   pub untouched : IsOneOf status (4 ∷ 6 ∷ 10 ∷ 11 ∷ []) → IsTrue new.tells → (new.octets ≡ old.octets) × WritesNothing old new
   pub says : Says before after writes_before writes_after status
   -- each status has its cause

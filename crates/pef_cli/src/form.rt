@@ -4,19 +4,20 @@
 pub enum Form {
     /// `init STATE SETTINGS` formats a controller's state file.
     Init,
-    /// `run STATE SCRIPT` takes the items of a script that aren't taken yet.
+    /// `run STATE SCRIPT` takes the items of a script, behind those taken where it was begun before.
     Run,
 }
 
-/// The places of a form's words, from 0, and its number. What a form hasn't is 0.
+/// The places of a form's words, from 0, and a number of arrivals. What a form hasn't is 0.
 #[derive(Clone, Copy, Debug, PartialEq, Eq)]
 pub struct Paths {
+    /// The form that the first word names.
     pub form: Form,
     /// The place of the state file's path.
     pub state: usize,
     /// The place of the other path.
     pub second: usize,
-    /// The number of arrivals to wait for.
+    /// The number of arrivals to wait for: 0, since no form of today waits for any.
     pub arrivals: u64,
 }
 

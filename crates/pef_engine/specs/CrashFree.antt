@@ -28,11 +28,12 @@ crash_free_turns (suc turns) rules Z H items tolds = crash_free_turn (crash_free
 abbrev pub crash_free_run : {I : Type 0} → Rules I → List ℕ → List (Entry I) → List I → List Told → List (Entry I)
 crash_free_run rules Z H items tolds = crash_free_turns (length items + length tolds) rules Z H items tolds
 
--- the items and the outcomes of a history
+-- the item of an entry
 abbrev pub items_of : {I : Type 0} → Entry I → List I
 items_of (Item item) = item ∷ []
 items_of (Outcome told) = []
 
+-- the items and the outcomes of a history
 abbrev pub entry_items : {I : Type 0} → List (Entry I) → List I
 entry_items [] = []
 entry_items (Item item ∷ K) = item ∷ entry_items K

@@ -1,6 +1,7 @@
 //! A machine with its journal: each entry is stored before the next step is issued.
 ghost use Rattle.std.specs.Prelude.{◌≡◌, ◌⊎◌, ◌↔◌, ◌<◌, ◌≤◌, ℕ, List, [], ◌∷◌, ◌++◌, length, Option, Some, None, IfOk, OnOk, OnErr, IsErr, IsErrOf, IsTrue, IsSome, Result};
 ghost use Rattle.board_core.specs.Causes.{Rose};
+ghost use Rattle.board_core.specs.declared.step.Sent.{Sent};
 ghost use Rattle.board_core.specs.Board.{LeavesOnly, IsFileRun};
 ghost use Rattle.pef_engine.specs.declared.entry.Entry.{Entry};
 ghost use Rattle.pef_engine.specs.declared.entry.Entry.TheVariants.{Outcome};
@@ -83,6 +84,8 @@ impl<M: Machine> Engine<M> {
         ensures any_moment { IsTrue (B.view board.new).tells → (Z : List ℕ) (H : List (Entry M.Item)) →
             Holds M.rules M.view Z H (B.view board.old) self.old →
             LeavesOnly (B.view board.old) (B.view board.new) (LeavesPrefix M.rules Z H (B.view board.old).sent []) }
+        ensures once { IsTrue (B.view board.new).tells → ((B.view board.new).sent ≡ (B.view board.old).sent)
+            ⊎ ((one : Sent) × ((B.view board.new).sent ≡ (B.view board.old).sent ++ one ∷ [])) }
         ensures none { IfOk result (λ told. (told ≡ None) ↔ ((M.view self.old.machine).due ≡ None)) }
         ensures goes_on { IfOk result (λ told. (given : _) → told ≡ Some given → GoesOn M.rules (M.view self.old.machine) (M.view self.new.machine) (Outcome given)) }
         ensures idle { IfOk result (λ told. told ≡ None → (self.new ≡ self.old) × (board.new ≡ board.old)) }
@@ -120,7 +123,7 @@ impl<M: Machine> Engine<M> {
         Ok(Some(told))
     }
 
-    /// True where no append has failed since it was opened.
+    /// True where all entries were read, and no append has failed since.
     pub fn live(&self) -> bool
         ensures { IsTrue result ↔ IsLive self.now }
     {

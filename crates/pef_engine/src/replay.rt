@@ -20,8 +20,9 @@ use std::alloc::Global;
 const SETTINGS_ROOM: usize = 64;
 
 impl<M: Machine> Engine<M> {
-    /// Syncs, and replays the file's entries; it writes nothing. `NotFormatted` and `Corrupt` come exactly where the file stands
-    /// for no lawful history, `Full` and `Memory` only where the machine can't get ready for one of the entries.
+    /// Syncs, and replays the file's entries; it writes nothing. `NotFormatted` and `Corrupt` come only where the file stands for no
+    /// lawful history, and then it isn't opened; `Memory` where there is none for the machine, or for one of the entries, and `Full`
+    /// only where the machine's own limit stands against one.
     pub fn open<B: Board>(alloc: Global, board: &mut B) -> Result<Engine<M>, EngineFault>
         ensures opened { IsTrue (B.view board.new).tells → (Z : List ℕ) (H : List (Entry M.Item)) →
             Lawful M.rules Z H → Stands M.rules Z H (B.view board.old).octets →

@@ -16,7 +16,7 @@ use Rattle.script_run.specs.declared.stop.Stop.{Stop}
 use Rattle.script_run.specs.declared.stop.Stop.TheVariants.{Unformatted, Line, Unfinished, Input, Disk, Output, Full, Memory}
 use Rattle.script_run.specs.Items.{IsOther, items_of_text}
 use Rattle.script_run.specs.Report.{report_from, says, ok_line, bad_line_line, unfinished_line}
-use Rattle.script_run.specs.Top.{RunTakes, RunStops, RunReports, RunIsCut, IsFullAt, WritesNothing, RunAnswers, RunCall}
+use Rattle.script_run.specs.Top.{RunTakes, RunStops, RunReports, RunIsCut, IsUntouched, IsFullAt, RunAnswers, RunCall}
 use Rattle.script_run.specs.Status.{IsPartOf, Finishes, last_line}
 use Rattle.script_run.specs.Room.{HasNoRoomBehind, LacksRoom, IsTooMuch, HasLimit, HasNoLimit}
 use Rattle.script_run.specs.Playing.{Performs, Reported, AnswersNone}
@@ -72,8 +72,8 @@ module _ {I : Type 0} (rules : Rules I) (scripts : ScriptRules I) (Z : List ℕ)
       same_text a b e = cc
 
   -- the last line behind what was reported
-  pub reports_on : (before mid after : Option (List ℕ)) (w0 w1 w2 : ℕ) (stop : Stop) → w0 ≤ w1 → (stop ≡ Output → ⊥) → Reported rules (says rules scripts) Z H items new before mid stop
-      → ((text : List ℕ) → mid ≡ Some text → (part : List ℕ) × (after ≡ Some (text ++ part)) × IsPartOf part (last_line stop) w1 w2) → RunReports rules (says rules scripts) Z H items new before after w0 w2 stop
+  pub reports_on : (before mid after : Option (List ℕ)) (w0 w1 w2 : ℕ) (stop : Stop) → w0 ≤ w1 → (stop ≡ Output → ⊥) → Reported rules (says rules scripts) Z H items old new before mid stop
+      → ((text : List ℕ) → mid ≡ Some text → (part : List ℕ) × (after ≡ Some (text ++ part)) × IsPartOf part (last_line stop) w1 w2) → RunReports rules (says rules scripts) Z H items old new before after w0 w2 stop
   reports_on before mid after w0 w1 w2 stop later not q wrote = record {
     entries = q.entries;
     stored = q.stored;
@@ -81,7 +81,7 @@ module _ {I : Type 0} (rules : Rules I) (scripts : ScriptRules I) (Z : List ℕ)
     written = λ text is.
         let w = q.written text is in
         let r = part_later w0 w1 w2 later (last_line stop) after (text ++ w.0) (wrote (text ++ w.0) w.1) in
-        (r.0, r.1 ∙ ap Some (append_assoc text w.0 r.0 ∙ ap (λ l. text ++ (l ++ r.0)) (w.3 not)), r.2);
+        (r.0, r.1 ∙ ap Some (append_assoc text w.0 r.0 ∙ ap (λ l. text ++ (l ++ r.0)) (w.4 not)), r.2);
   }
 
   no_part : (part rest : List ℕ) → part ++ rest ≡ [] → part ≡ []
@@ -89,35 +89,39 @@ module _ {I : Type 0} (rules : Rules I) (scripts : ScriptRules I) (Z : List ℕ)
   no_part (x ∷ part) rest e = cc e
 
   -- a line of the report was not written whole
-  pub cut_on : (before mid after : Option (List ℕ)) (w1 w2 : ℕ) → Reported rules (says rules scripts) Z H items new before mid Output
-      → ((text : List ℕ) → mid ≡ Some text → (part : List ℕ) × (after ≡ Some (text ++ part)) × IsPartOf part [] w1 w2) → RunIsCut rules (says rules scripts) Z H items new before after
+  pub cut_on : (before mid after : Option (List ℕ)) (w1 w2 : ℕ) → Reported rules (says rules scripts) Z H items old new before mid Output
+      → ((text : List ℕ) → mid ≡ Some text → (part : List ℕ) × (after ≡ Some (text ++ part)) × IsPartOf part [] w1 w2) → RunIsCut rules (says rules scripts) Z H items old new before after
   cut_on before mid after w1 w2 q wrote = record {
     entries = q.entries;
     stored = q.stored;
     all = q.all (λ clash. cc clash);
+    fewer = q.fewer;
+    but_last = q.but_last;
     written = λ text is.
         let w = q.written text is in
         let e = wrote (text ++ w.0) w.1 in
         let none = no_part e.0 e.2.0.0 e.2.0.1 in
-        (w.0, e.1 ∙ ap (λ l. Some ((text ++ w.0) ++ l)) none ∙ ap Some (append-nil (text ++ w.0)), inl w.2);
+        (w.0, e.1 ∙ ap (λ l. Some ((text ++ w.0) ++ l)) none ∙ ap Some (append-nil (text ++ w.0)), w.2, inl w.3);
   }
 
   -- the last line of a run that took all was not written whole
   pub cut_last : (before mid after : Option (List ℕ)) → (t : RunTakes rules (says rules scripts) Z H items old new before mid [])
-      → ((text : List ℕ) → mid ≡ Some text → (part : List ℕ) × (after ≡ Some (text ++ part)) × IsPrefixOf part (ok_line (length items))) → RunIsCut rules (says rules scripts) Z H items new before after
+      → ((text : List ℕ) → mid ≡ Some text → (part : List ℕ) × (after ≡ Some (text ++ part)) × IsPrefixOf part (ok_line (length items))) → RunIsCut rules (says rules scripts) Z H items old new before after
   cut_last before mid after t wrote =
       let run = crash_free_run rules Z H items t.tolds in
       let report = report_from (says rules scripts) Z H run in record {
         entries = run;
         stored = record {
           is_prefix = ([], append-nil run ∙ ap (crash_free_run rules Z H items) (sym t.stored));
-          lasting = inr (λ c now. ([], subst (λ K. Stands rules Z (H ++ K) c) (sym (append-nil run)) (t.lasting c now)));
+          lasting = inr (λ c now. ([], omega arith, subst (λ K. Stands rules Z (H ++ K) c) (sym (append-nil run)) (t.lasting c now)));
         };
         all = t.stands;
+        fewer = run;
+        but_last = inl refl;
         written = λ text is.
             let e = wrote (text ++ (report ++ [])) (t.written text is) in
             let line = ok_line (length items) in
-            (report ++ e.0, e.1 ∙ ap Some (ap (λ r. (text ++ r) ++ e.0) (append-nil report) ∙ append_assoc text report e.0), inr (t.taken, (e.2.0, append_assoc report e.0 e.2.0 ∙ ap (λ l. report ++ l) e.2.1)));
+            (report ++ e.0, e.1 ∙ ap Some (ap (λ r. (text ++ r) ++ e.0) (append-nil report) ∙ append_assoc text report e.0), (e.0, refl), inr (t.taken, (e.2.0, append_assoc report e.0 e.2.0 ∙ ap (λ l. report ++ l) e.2.1)));
       }
 
 told_or_not : (before : Option (List ℕ)) → ((text : List ℕ) → before ≡ Some text → ⊥) ⊎ ((text : List ℕ) × (before ≡ Some text))
@@ -324,9 +328,9 @@ module _ {I M : Type 0} (rules : Rules I) (view : M → MachineView I) (scripts 
   pub run_call : (end : Result ℕ Stop)
       → (IsTrue new.tells → (Z : List ℕ) (H : List (Entry I)) (text : List ℕ) → Lawful rules Z H → Stands rules Z H old.octets → source ≡ Some text → Performs rules view (says rules scripts) scripts Z H text old new before mid end)
       → Finishes mid after w1 w2 end status → (IsErrOf end Unformatted → IsTrue new.tells → StandsForNone rules old.octets)
-      → (IsTrue new.tells → StandsForNone rules old.octets → AnswersNone view end × (new.octets ≡ old.octets) × (new.sent ≡ old.sent) × WritesNothing old new)
+      → (IsTrue new.tells → StandsForNone rules old.octets → AnswersNone view end × IsUntouched old new)
       → (IsErrOf end Unformatted → mid ≡ before) → (IsTrue new.tells → StandsForNone rules old.octets → mid ≡ before)
-      → (IsErrOf end Memory → IsTrue rules.takes_memory ⊎ (IsTrue new.tells → (new.octets ≡ old.octets) × (new.sent ≡ old.sent)))
+      → (IsErrOf end Memory → IsTrue rules.takes_memory ⊎ (IsTrue new.tells → IsUntouched old new))
       → (IsErrOf end Disk → Rose old.disk_faults new.disk_faults) → (IsErrOf end Output → Rose w0 w1) → (IsErrOf end Input → Rose r0 r1)
       → RunCall rules view scripts old new source r0 r1 before after w0 w2 status
   run_call (Ok n) performs (inl e) unformatted nothing quiet silent memory disk output input =
@@ -366,7 +370,7 @@ module _ {I M : Type 0} (rules : Rules I) (view : M → MachineView I) (scripts 
         statuses = inr (inl is);
         unformatted = λ s. unformatted refl;
         says_unformatted = λ s text is_before. part_later w0 w1 w2 later (last_line Unformatted) after text (ended.2 text (quiet refl ∙ is_before));
-        is_unformatted = λ tells none. let u = nothing tells none in (inl (inl is), u.1, u.2, u.3);
+        is_unformatted = λ tells none. let u = nothing tells none in (inl (inl is), u.1);
         says_none = λ tells none. (Unformatted, is, λ text is_before. part_later w0 w1 w2 later (last_line Unformatted) after text (ended.2 text (silent tells none ∙ is_before)));
         input = λ e. absurd (omega (arith, e, is));
         disk = λ e. absurd (omega (arith, e, is));
@@ -426,7 +430,7 @@ module _ {I M : Type 0} (rules : Rules I) (view : M → MachineView I) (scripts 
         statuses = inr (inr (inr (inr (inr (inl is)))));
         unformatted = λ e. absurd (omega (arith, e, is));
         says_unformatted = λ e. absurd (omega (arith, e, is));
-        is_unformatted = λ tells none. let u = nothing tells none in (inl (inr (inl is)), u.1, u.2, u.3);
+        is_unformatted = λ tells none. let u = nothing tells none in (inl (inr (inl is)), u.1);
         says_none = λ tells none. (Disk, is, λ text is_before. part_later w0 w1 w2 later (last_line Disk) after text (ended.2 text (silent tells none ∙ is_before)));
         input = λ e. absurd (omega (arith, e, is));
         disk = λ s. disk refl;
@@ -456,7 +460,7 @@ module _ {I M : Type 0} (rules : Rules I) (view : M → MachineView I) (scripts 
         statuses = inr (inr (inr (inr (inr (inr (inr (inl is)))))));
         unformatted = λ e. absurd (omega (arith, e, is));
         says_unformatted = λ e. absurd (omega (arith, e, is));
-        is_unformatted = λ tells none. let u = nothing tells none in (inr (is, u.0), u.1, u.2, u.3);
+        is_unformatted = λ tells none. let u = nothing tells none in (inr (is, u.0), u.1);
         says_none = λ tells none. (Full, is, λ text is_before. part_later w0 w1 w2 later (last_line Full) after text (ended.2 text (silent tells none ∙ is_before)));
         input = λ e. absurd (omega (arith, e, is));
         disk = λ e. absurd (omega (arith, e, is));
@@ -471,7 +475,7 @@ module _ {I M : Type 0} (rules : Rules I) (view : M → MachineView I) (scripts 
         statuses = inr (inr (inr (inr (inr (inr (inr (inr (inl is))))))));
         unformatted = λ e. absurd (omega (arith, e, is));
         says_unformatted = λ e. absurd (omega (arith, e, is));
-        is_unformatted = λ tells none. let u = nothing tells none in (inl (inr (inr (inl is))), u.1, u.2, u.3);
+        is_unformatted = λ tells none. let u = nothing tells none in (inl (inr (inr (inl is))), u.1);
         says_none = λ tells none. (Memory, is, λ text is_before. part_later w0 w1 w2 later (last_line Memory) after text (ended.2 text (silent tells none ∙ is_before)));
         input = λ e. absurd (omega (arith, e, is));
         disk = λ e. absurd (omega (arith, e, is));

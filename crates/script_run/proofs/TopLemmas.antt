@@ -124,21 +124,25 @@ module _ {I M : Type 0} (rules : Rules I) (view : M → MachineView I) (says : L
   begins_run items rest K lawful taken =
       (crash_free_run rules Z (H ++ K) rest [], sym (ap (λ i. crash_free_run rules Z H i (entry_tolds K)) (sym taken) ∙ ap (λ t. crash_free_run rules Z H (entry_items K ++ rest) t) (sym (append-nil (entry_tolds K))) ∙ run_goes_on rules Z H K rest [] lawful))
 
-  pub reported_of : (items : List I) (new : BoardView) (before after : Option (List ℕ)) (stop : Stop) → Reports rules says Z H items new before after stop → Reported rules says Z H items new before after stop
-  reported_of items new before after stop q = record {
+  pub reported_of : (items : List I) (old new : BoardView) (before after : Option (List ℕ)) (stop : Stop) → Reports rules says Z H items new before after stop → Reported rules says Z H items old new before after stop
+  reported_of items old new before after stop q = record {
     entries = q.entries;
     stored = record { is_prefix = begins_run items q.rest q.entries q.lawful q.taken; lasting = inr q.stored };
     all = q.all;
+    fewer = q.fewer;
+    but_last = q.but_last;
     written = q.written;
   }
 
   -- nothing was taken, and nothing reported
-  pub reported_none : (items : List I) (new : BoardView) (before : Option (List ℕ)) (stop : Stop) → Stands rules Z H new.octets → Reported rules says Z H items new before before stop
-  reported_none items new before stop stands = record {
+  pub reported_none : (items : List I) (old new : BoardView) (before : Option (List ℕ)) (stop : Stop) → IsUntouched old new → Stands rules Z H new.octets → Reported rules says Z H items old new before before stop
+  reported_none items old new before stop same stands = record {
     entries = [];
-    stored = record { is_prefix = (crash_free_run rules Z H items [], refl); lasting = inl refl };
+    stored = record { is_prefix = (crash_free_run rules Z H items [], refl); lasting = inl (refl, same) };
     all = λ not. subst (λ G. Stands rules Z G new.octets) (sym (append-nil H)) stands;
-    written = λ old is. ([], is ∙ ap Some (sym (append-nil old)), ([], refl), λ not. refl);
+    fewer = [];
+    but_last = inl refl;
+    written = λ text is. ([], is ∙ ap Some (sym (append-nil text)), ([], refl), ([], refl), λ not. refl);
   }
 
 module _ {I M : Type 0} (rules : Rules I) (view : M → MachineView I) (says : List ℕ → List (Entry I) → Entry I → List ℕ) (scripts : ScriptRules I) (Z : List ℕ) (H : List (Entry I)) (text : List ℕ) (old : BoardView) where
@@ -150,9 +154,9 @@ module _ {I M : Type 0} (rules : Rules I) (view : M → MachineView I) (says : L
   performs_not new before (Unfinished id count) keeps opening formatted over same stands = absurd opening
   performs_not new before Input keeps opening formatted over same stands = absurd opening
   performs_not new before Output keeps opening formatted over same stands = absurd opening
-  performs_not new before Disk keeps opening formatted over same stands = record { keeps = keeps; takes = λ r. absurd r; idle = λ said taken. absurd taken; number = tt; refused = λ id count e. same; headless = λ none. (same, tt); answers = λ not. tt; refuses = λ o. tt; other = λ id count e. absurd (cc e); full = λ e. absurd (cc e); reported = reported_none rules view says Z H (items_of_text scripts text H) new before Disk stands }
-  performs_not new before Memory keeps opening formatted over same stands = record { keeps = keeps; takes = λ r. absurd r; idle = λ said taken. absurd taken; number = tt; refused = λ id count e. same; headless = λ none. (same, tt); answers = λ not. tt; refuses = λ o. tt; other = λ id count e. absurd (cc e); full = λ e. absurd (cc e); reported = reported_none rules view says Z H (items_of_text scripts text H) new before Memory stands }
-  performs_not new before Full keeps opening formatted over same stands = record { keeps = keeps; takes = λ r. absurd r; idle = λ said taken. absurd taken; number = tt; refused = λ id count e. same; headless = λ none. (same, over refl); answers = λ not. tt; refuses = λ o. over refl; other = λ id count e. absurd (cc e); full = λ e. inr (over refl); reported = reported_none rules view says Z H (items_of_text scripts text H) new before Full stands }
+  performs_not new before Disk keeps opening formatted over same stands = record { keeps = keeps; takes = λ r. absurd r; idle = λ said taken. absurd taken; number = tt; refused = λ id count e. same; headless = λ none. (same, tt); answers = λ not. tt; refuses = λ o. tt; other = λ id count e. absurd (cc e); full = λ e. absurd (cc e); reported = reported_none rules view says Z H (items_of_text scripts text H) old new before Disk same stands }
+  performs_not new before Memory keeps opening formatted over same stands = record { keeps = keeps; takes = λ r. absurd r; idle = λ said taken. absurd taken; number = tt; refused = λ id count e. same; headless = λ none. (same, tt); answers = λ not. tt; refuses = λ o. tt; other = λ id count e. absurd (cc e); full = λ e. absurd (cc e); reported = reported_none rules view says Z H (items_of_text scripts text H) old new before Memory same stands }
+  performs_not new before Full keeps opening formatted over same stands = record { keeps = keeps; takes = λ r. absurd r; idle = λ said taken. absurd taken; number = tt; refused = λ id count e. same; headless = λ none. (same, over refl); answers = λ not. tt; refuses = λ o. over refl; other = λ id count e. absurd (cc e); full = λ e. inr (over refl); reported = reported_none rules view says Z H (items_of_text scripts text H) old new before Full same stands }
 
   -- the file is opened, and the script is run
   module _ (mid new : BoardView) (engine : Engine M I) (before after : Option (List ℕ)) (agrees : Agrees rules (view engine.machine)) (stands : Stands rules Z H old.octets) (first : SyncsFirst old mid (LeavesPrefix rules Z H old.sent [])) (sent : mid.sent ≡ old.sent) (sound : IsSound new) (tells : IsTrue new.tells) where
@@ -189,7 +193,7 @@ module _ {I M : Type 0} (rules : Rules I) (view : M → MachineView I) (says : L
           refuses = λ o. (plays.refuses o).0;
           other = λ id count e. absurd (cc e);
           full = λ e. absurd (cc e);
-          reported = reported_of rules view says Z H (items_of_text scripts text H) new before after (Line number) plays.reports;
+          reported = reported_of rules view says Z H (items_of_text scripts text H) old new before after (Line number) plays.reports;
         }
     performs (Err (Unfinished id count)) idle refused headless plays =
         let o = plays.other id count refl in
@@ -205,7 +209,7 @@ module _ {I M : Type 0} (rules : Rules I) (view : M → MachineView I) (says : L
           refuses = λ o. (plays.refuses o).0;
           other = λ i c e. o;
           full = λ e. absurd (cc e);
-          reported = reported_of rules view says Z H (items_of_text scripts text H) new before after (Unfinished id count) plays.reports;
+          reported = reported_of rules view says Z H (items_of_text scripts text H) old new before after (Unfinished id count) plays.reports;
         }
     performs (Err Unformatted) idle refused headless plays = record {
       keeps = run_keeps rules view says Z H (items_of_text scripts text H) old mid new stands first sent plays.moments sound tells;
@@ -218,7 +222,7 @@ module _ {I M : Type 0} (rules : Rules I) (view : M → MachineView I) (says : L
       refuses = λ o. (plays.refuses o).0;
       other = λ id count e. absurd (cc e);
       full = λ e. absurd (cc e);
-      reported = reported_of rules view says Z H (items_of_text scripts text H) new before after Unformatted plays.reports;
+      reported = reported_of rules view says Z H (items_of_text scripts text H) old new before after Unformatted plays.reports;
     }
     performs (Err Input) idle refused headless plays = record {
       keeps = run_keeps rules view says Z H (items_of_text scripts text H) old mid new stands first sent plays.moments sound tells;
@@ -231,7 +235,7 @@ module _ {I M : Type 0} (rules : Rules I) (view : M → MachineView I) (says : L
       refuses = λ o. (plays.refuses o).0;
       other = λ id count e. absurd (cc e);
       full = λ e. absurd (cc e);
-      reported = reported_of rules view says Z H (items_of_text scripts text H) new before after Input plays.reports;
+      reported = reported_of rules view says Z H (items_of_text scripts text H) old new before after Input plays.reports;
     }
     performs (Err Disk) idle refused headless plays = record {
       keeps = run_keeps rules view says Z H (items_of_text scripts text H) old mid new stands first sent plays.moments sound tells;
@@ -244,7 +248,7 @@ module _ {I M : Type 0} (rules : Rules I) (view : M → MachineView I) (says : L
       refuses = λ o. (plays.refuses o).0;
       other = λ id count e. absurd (cc e);
       full = λ e. absurd (cc e);
-      reported = reported_of rules view says Z H (items_of_text scripts text H) new before after Disk plays.reports;
+      reported = reported_of rules view says Z H (items_of_text scripts text H) old new before after Disk plays.reports;
     }
     performs (Err Output) idle refused headless plays = record {
       keeps = run_keeps rules view says Z H (items_of_text scripts text H) old mid new stands first sent plays.moments sound tells;
@@ -257,7 +261,7 @@ module _ {I M : Type 0} (rules : Rules I) (view : M → MachineView I) (says : L
       refuses = λ o. (plays.refuses o).0;
       other = λ id count e. absurd (cc e);
       full = λ e. absurd (cc e);
-      reported = reported_of rules view says Z H (items_of_text scripts text H) new before after Output plays.reports;
+      reported = reported_of rules view says Z H (items_of_text scripts text H) old new before after Output plays.reports;
     }
     performs (Err Memory) idle refused headless plays = record {
       keeps = run_keeps rules view says Z H (items_of_text scripts text H) old mid new stands first sent plays.moments sound tells;
@@ -270,7 +274,7 @@ module _ {I M : Type 0} (rules : Rules I) (view : M → MachineView I) (says : L
       refuses = λ o. (plays.refuses o).0;
       other = λ id count e. absurd (cc e);
       full = λ e. absurd (cc e);
-      reported = reported_of rules view says Z H (items_of_text scripts text H) new before after Memory plays.reports;
+      reported = reported_of rules view says Z H (items_of_text scripts text H) old new before after Memory plays.reports;
     }
     performs (Err Full) idle refused headless plays = record {
       keeps = run_keeps rules view says Z H (items_of_text scripts text H) old mid new stands first sent plays.moments sound tells;
@@ -283,7 +287,7 @@ module _ {I M : Type 0} (rules : Rules I) (view : M → MachineView I) (says : L
       refuses = λ o. (plays.refuses o).0;
       other = λ id count e. absurd (cc e);
       full = λ e. inl (full_at rules view says Z H (items_of_text scripts text H) old mid new engine before after sent ((plays.runs (plays.full e)).full e));
-      reported = reported_of rules view says Z H (items_of_text scripts text H) new before after Full plays.reports;
+      reported = reported_of rules view says Z H (items_of_text scripts text H) old new before after Full plays.reports;
     }
 
 pub opening_none : {I M : Type 0} (A : Type 0) (view : M → MachineView I) (stop : Stop) → IsOpeningStop stop → (stop ≡ Full → HasLimit view) → AnswersNone {A = A} view (Err stop)

@@ -32,7 +32,8 @@ items_after scripts (Some script) (Some said) =
     if script.closed then (if is_same script said.id said.count then [] else scripts.opening said.id said.count ∷ rest_of scripts 0 said.given)
     else (if is_same script said.id said.count then rest_of scripts script.taken said.given else [])
 
--- The items that a text gives after a history. A script that is closed gives none again; one that is unfinished goes on
--- behind the items that were taken; where another one is unfinished, or line 1 is bad, there are none.
+-- The items that a text gives after a history, beside the script that was opened last. One of the same id and count gives none where
+-- that one is closed, and goes on behind the items that were taken where it is unfinished; another one begins where that one is
+-- closed, and gives none where it is unfinished. Where line 1 is bad there are none.
 abbrev pub items_of_text : {I : Type 0} → ScriptRules I → List ℕ → List (Entry I) → List I
 items_of_text scripts text H = items_after scripts (scripts.script_of H) (said_of text)

@@ -13,7 +13,7 @@ use Rattle.script_run.specs.declared.stop.Stop.{Stop}
 use Rattle.script_run.specs.declared.stop.Stop.TheVariants.{Unformatted, Line, Unfinished, Input, Disk, Output, Full, Memory}
 use Rattle.pef_engine.specs.Scripts.{ScriptRules}
 use Rattle.script_run.specs.Items.{IsOther, items_of_text}
-use Rattle.script_run.specs.Top.{RunKeeps, RunTakes, IsFullAt, IsUntouched, AreStored}
+use Rattle.script_run.specs.Top.{RunKeeps, RunTakes, IsFullAt, IsUntouched, AreStored, AllButLast}
 use Rattle.script_run.specs.Report.{report_from}
 use Rattle.script_run.specs.Room.{HasLimit}
 use Rattle.script_run.specs.Run.{Runs, IsTaken, Answers, RunsGiven, Reports}
@@ -44,7 +44,8 @@ AnswersHeadless view (Err Output) = ⊥
 AnswersHeadless view (Err Full) = HasLimit view
 AnswersHeadless view (Err Memory) = ⊤
 
--- A text was run: what it gives was taken, up to its first bad line; where another script is unfinished nothing was, and that one is named.
+-- A text was run: what it gives was taken, up to its first bad line; where another script is unfinished nothing was, and that one is
+-- named, unless something failed before.
 pub record Plays {I M : Type 0} (rules : Rules I) (view : M → MachineView I) (says : List ℕ → List (Entry I) → Entry I → List ℕ) (scripts : ScriptRules I) (Z : List ℕ) (H : List (Entry I)) (text : List ℕ) (start now : BoardView) (engine : Engine M I) (before after : Option (List ℕ)) (result : Result ℕ Stop) : Type 0 where
   pub runs : (IsOther (scripts.script_of H) (said_of text) → ⊥) → RunsGiven rules view says Z H (items_of_text scripts text H) (bad_line (said_of text)) start now engine before after result
   pub moments : LeavesOnly start now (LeavesPrefix rules Z H start.sent (items_of_text scripts text H))
@@ -78,13 +79,16 @@ AnswersNone view (Err Output) = ⊥
 AnswersNone view (Err Full) = HasLimit view
 AnswersNone view (Err Memory) = ⊤
 
--- what was written is the report of these entries, or where the sink failed a part of it; unless the disk failed they are all that the
--- file has
-pub record Reported {I : Type 0} (rules : Rules I) (says : List ℕ → List (Entry I) → Entry I → List ℕ) (Z : List ℕ) (H : List (Entry I)) (items : List I) (new : BoardView) (before after : Option (List ℕ)) (stop : Stop) : Type 0 where
+-- These entries are stored, and all that the file has unless the disk failed; and what was written is their report, or where the sink
+-- failed it ends in the line of the last one.
+pub record Reported {I : Type 0} (rules : Rules I) (says : List ℕ → List (Entry I) → Entry I → List ℕ) (Z : List ℕ) (H : List (Entry I)) (items : List I) (old new : BoardView) (before after : Option (List ℕ)) (stop : Stop) : Type 0 where
   pub entries : List (Entry I)
-  pub stored : AreStored rules Z H items new entries
+  pub stored : AreStored rules Z H items old new entries
   pub all : (stop ≡ Disk → ⊥) → Stands rules Z (H ++ entries) new.octets
-  pub written : (old : List ℕ) → before ≡ Some old → (text : List ℕ) × (after ≡ Some (old ++ text)) × IsPrefixOf text (report_from says Z H entries) × ((stop ≡ Output → ⊥) → text ≡ report_from says Z H entries)
+  pub fewer : List (Entry I)
+  pub but_last : AllButLast entries fewer
+  pub written : (text : List ℕ) → before ≡ Some text → (part : List ℕ) × (after ≡ Some (text ++ part)) × IsPrefixOf (report_from says Z H fewer) part × IsPrefixOf part (report_from says Z H entries)
+      × ((stop ≡ Output → ⊥) → part ≡ report_from says Z H entries)
 
 -- What a run over a file that stands for H does with a text: the crash-free run of the items that the text gives behind H.
 pub record Performs {I M : Type 0} (rules : Rules I) (view : M → MachineView I) (says : List ℕ → List (Entry I) → Entry I → List ℕ) (scripts : ScriptRules I) (Z : List ℕ) (H : List (Entry I)) (text : List ℕ) (old new : BoardView) (before after : Option (List ℕ)) (result : Result ℕ Stop) : Type 0 where
@@ -98,7 +102,7 @@ pub record Performs {I M : Type 0} (rules : Rules I) (view : M → MachineView I
   pub refuses : IsOther (scripts.script_of H) (said_of text) → AnswersOther view (scripts.script_of H) result
   pub other : (id count : ℕ) → IsErrOf result (Unfinished id count) → IsOther (scripts.script_of H) (said_of text)
   pub full : IsErrOf result Full → IsFullAt rules view Z H (items_of_text scripts text H) old new ⊎ HasLimit view
-  pub reported : IfErr result (λ stop. Reported rules says Z H (items_of_text scripts text H) new before after stop)
+  pub reported : IfErr result (λ stop. Reported rules says Z H (items_of_text scripts text H) old new before after stop)
 
 -- what an opening may stop with
 abbrev pub IsOpeningStop : Stop → Type 0

@@ -1,5 +1,5 @@
 -- What a run has done so far.
-use Rattle.std.specs.Prelude.{◌≡◌, ⊤, ℕ, List, ◌∷◌, ◌++◌, length, Option, Some, None, Result, Ok, Err, IsErrOf, IfOk, IfErr}
+use Rattle.std.specs.Prelude.{◌≡◌, ⊤, ℕ, ◌≤◌, List, ◌∷◌, ◌++◌, length, Option, Some, None, Result, Ok, Err, IsErrOf, IfOk, IfErr}
 use Rattle.board_core.specs.declared.step.Step.{Step}
 use Rattle.board_core.specs.Board.{BoardView, LeavesOnly, steps_of, tolds_of}
 use Rattle.pef_engine.specs.declared.entry.Entry.{Entry}
@@ -15,6 +15,7 @@ use Rattle.script_run.specs.declared.stop.Stop.TheVariants.{Unformatted, Line, U
 use Rattle.pef_engine.specs.Scripts.{ScriptRules, Awaits}
 use Rattle.script_run.specs.Items.{rest_of}
 use Rattle.script_run.specs.Report.{report_from}
+use Rattle.script_run.specs.Top.{AllButLast}
 use Rattle.pef_engine.specs.declared.entry.Entry.TheVariants.{Item, Outcome}
 use Rattle.pef_engine.specs.Engine.{Holds}
 use Rattle.script_run.specs.Room.{HadRoom, IsTooMuch}
@@ -60,16 +61,20 @@ pub record StopsFull {I M : Type 0} (rules : Rules I) (view : M → MachineView 
   pub comes : ComesNext rules Z (H ++ runs.entries) more next
   pub too_much : IsTooMuch rules view Z (H ++ runs.entries) next
 
--- It stopped: some of these items were taken, in these entries, which each crash leaves, perhaps with more, and which are all that the
--- file has unless the disk failed; and what was written is the report of these entries, or where the sink failed a part of it.
+-- It stopped: some of these items were taken, in these entries, which each crash leaves, perhaps with the next one, and which are all
+-- that the file has unless the disk failed; and what was written is the report of these entries, or where the sink failed it ends in
+-- the line of the last one.
 pub record Reports {I : Type 0} (rules : Rules I) (says : List ℕ → List (Entry I) → Entry I → List ℕ) (Z : List ℕ) (H : List (Entry I)) (items : List I) (now : BoardView) (before after : Option (List ℕ)) (stop : Stop) : Type 0 where
   pub entries : List (Entry I)
   pub lawful : LawfulFrom rules Z H entries
   pub rest : List I
   pub taken : entry_items entries ++ rest ≡ items
-  pub stored : (c : List ℕ) → now.images c → (later : List (Entry I)) × Stands rules Z (H ++ (entries ++ later)) c
+  pub stored : (c : List ℕ) → now.images c → (next : List (Entry I)) × (length next ≤ 1) × Stands rules Z (H ++ (entries ++ next)) c
   pub all : (stop ≡ Disk → ⊥) → Stands rules Z (H ++ entries) now.octets
-  pub written : (old : List ℕ) → before ≡ Some old → (text : List ℕ) × (after ≡ Some (old ++ text)) × IsPrefixOf text (report_from says Z H entries) × ((stop ≡ Output → ⊥) → text ≡ report_from says Z H entries)
+  pub fewer : List (Entry I)
+  pub but_last : AllButLast entries fewer
+  pub written : (old : List ℕ) → before ≡ Some old → (text : List ℕ) × (after ≡ Some (old ++ text)) × IsPrefixOf (report_from says Z H fewer) text × IsPrefixOf text (report_from says Z H entries)
+      × ((stop ≡ Output → ⊥) → text ≡ report_from says Z H entries)
 
 -- the disk, the sink or the room stopped it, or want of memory
 abbrev pub IsStepStop : Stop → Type 0

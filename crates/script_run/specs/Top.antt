@@ -1,5 +1,5 @@
 -- What a run leaves, writes and answers.
-use Rattle.std.specs.Prelude.{◌≡◌, ◌≢◌, ◌⊎◌, ℕ, List, [], ◌∷◌, ◌++◌, length, Option, Some, None, IsSome, IfSome, IsTrue}
+use Rattle.std.specs.Prelude.{◌≡◌, ◌≢◌, ◌⊎◌, ℕ, ◌≤◌, List, [], ◌∷◌, ◌++◌, length, Option, Some, None, IsSome, IfSome, IsTrue}
 use Rattle.board_core.specs.declared.step.Told.{Told}
 use Rattle.board_core.specs.Causes.{Rose}
 use Rattle.board_core.specs.Board.{Only, SyncsFirst, BoardView, CrashState, NeverSynced, steps_of, tolds_of}
@@ -22,8 +22,8 @@ abbrev pub ReturnLeft : BoardView → CrashState
 ReturnLeft v = record { image = v.octets; issued = steps_of v.sent; told = tolds_of v.sent }
 
 -- Until the first sync the call writes and issues nothing. From then on each crash leaves one prefix of the run without a crash,
--- with the steps that it prescribes. Where that sync has not returned, what a read gives is such a prefix. Where all of the file was
--- on the disk at the start, as it is behind a crash, each crash of the call leaves such a prefix.
+-- with the steps that it prescribes, or these and the one that is due. At the return what a read gives is such a prefix. Where all of
+-- the file was on the disk at the start, as it is behind a crash, each crash of the call leaves such a prefix.
 pub record RunKeeps {I : Type 0} (rules : Rules I) (Z : List ℕ) (H : List (Entry I)) (items : List I) (old new : BoardView) : Type 0 where
   pub moments : NeverSynced old new ⊎ SyncsFirst old new (LeavesPrefix rules Z H old.sent items)
   pub returned : LeavesPrefix rules Z H old.sent items (ReturnLeft new)
@@ -66,43 +66,51 @@ pub record RunStops {I : Type 0} (rules : Rules I) (says : List ℕ → List (En
   pub is_part : IsPartOf part last writes_before writes_after
   pub takes : RunTakes rules says Z H items old new before after part
 
--- these entries are the first of the run without a crash, and where there are any each crash leaves them, perhaps with more
-pub record AreStored {I : Type 0} (rules : Rules I) (Z : List ℕ) (H : List (Entry I)) (items : List I) (new : BoardView) (entries : List (Entry I)) : Type 0 where
-  pub is_prefix : IsPrefixOf entries (crash_free_run rules Z H items (entry_tolds entries))
-  pub lasting : (entries ≡ []) ⊎ ((c : List ℕ) → new.images c → (more : List (Entry I)) × Stands rules Z (H ++ (entries ++ more)) c)
-
--- status 6, 7, 9 or 10: only what is stored was reported, and all of it unless the disk failed; and the last line came, or part of it
--- where the sink failed
-pub record RunReports {I : Type 0} (rules : Rules I) (says : List ℕ → List (Entry I) → Entry I → List ℕ) (Z : List ℕ) (H : List (Entry I)) (items : List I) (new : BoardView) (before after : Option (List ℕ)) (writes_before writes_after : ℕ) (stop : Stop) : Type 0 where
-  pub entries : List (Entry I)
-  pub stored : AreStored rules Z H items new entries
-  pub all : (stop ≡ Disk → ⊥) → Stands rules Z (H ++ entries) new.octets
-  pub written : (text : List ℕ) → before ≡ Some text → (part : List ℕ) × (after ≡ Some (text ++ (report_from says Z H entries ++ part))) × IsPartOf part (last_line stop) writes_before writes_after
-
--- status 8: part of the report of all that is stored was written, or where all items were taken the report and part of the last line
-pub record RunIsCut {I : Type 0} (rules : Rules I) (says : List ℕ → List (Entry I) → Entry I → List ℕ) (Z : List ℕ) (H : List (Entry I)) (items : List I) (new : BoardView) (before after : Option (List ℕ)) : Type 0 where
-  pub entries : List (Entry I)
-  pub stored : AreStored rules Z H items new entries
-  pub all : Stands rules Z (H ++ entries) new.octets
-  pub written : (text : List ℕ) → before ≡ Some text → (part : List ℕ) × (after ≡ Some (text ++ part))
-      × (IsPrefixOf part (report_from says Z H entries) ⊎ ((entry_items entries ≡ items) × IsPrefixOf part (report_from says Z H entries ++ ok_line (length items))))
-
--- nothing was written and nothing issued
-pub record IsUntouched (old new : BoardView) : Type 0 where
-  pub octets : new.octets ≡ old.octets
-  pub sent : new.sent ≡ old.sent
-
 -- Nothing is written at any moment: until the first sync a crash leaves what it could before, and from then on what a read gave.
 abbrev pub WritesNothing : BoardView → BoardView → Type 0
 WritesNothing old new = NeverSynced old new ⊎ SyncsFirst old new (LeavesAsRead old)
 
+-- nothing was written at any moment, and nothing issued
+pub record IsUntouched (old new : BoardView) : Type 0 where
+  pub octets : new.octets ≡ old.octets
+  pub sent : new.sent ≡ old.sent
+  pub moments : WritesNothing old new
+
+-- These entries are the first of the run without a crash. There are none and the file is as it was, or each crash leaves them, perhaps
+-- with the next one.
+pub record AreStored {I : Type 0} (rules : Rules I) (Z : List ℕ) (H : List (Entry I)) (items : List I) (old new : BoardView) (entries : List (Entry I)) : Type 0 where
+  pub is_prefix : IsPrefixOf entries (crash_free_run rules Z H items (entry_tolds entries))
+  pub lasting : ((entries ≡ []) × IsUntouched old new) ⊎ ((c : List ℕ) → new.images c → (next : List (Entry I)) × (length next ≤ 1) × Stands rules Z (H ++ (entries ++ next)) c)
+
+-- Status 6, 7, 9 or 10: what is stored was reported, but perhaps for the entry at which the disk failed, and nothing else; and the last
+-- line came, or part of it where the sink failed.
+pub record RunReports {I : Type 0} (rules : Rules I) (says : List ℕ → List (Entry I) → Entry I → List ℕ) (Z : List ℕ) (H : List (Entry I)) (items : List I) (old new : BoardView) (before after : Option (List ℕ)) (writes_before writes_after : ℕ) (stop : Stop) : Type 0 where
+  pub entries : List (Entry I)
+  pub stored : AreStored rules Z H items old new entries
+  pub all : (stop ≡ Disk → ⊥) → Stands rules Z (H ++ entries) new.octets
+  pub written : (text : List ℕ) → before ≡ Some text → (part : List ℕ) × (after ≡ Some (text ++ (report_from says Z H entries ++ part))) × IsPartOf part (last_line stop) writes_before writes_after
+
+-- all of these entries, or all but the last
+abbrev pub AllButLast : {I : Type 0} → List (Entry I) → List (Entry I) → Type 0
+AllButLast {I} entries fewer = (entries ≡ fewer) ⊎ ((last : Entry I) × (entries ≡ fewer ++ last ∷ []))
+
+-- Status 8: what was written ends in the line of the entry that was stored last, or where all items were taken in the last line.
+pub record RunIsCut {I : Type 0} (rules : Rules I) (says : List ℕ → List (Entry I) → Entry I → List ℕ) (Z : List ℕ) (H : List (Entry I)) (items : List I) (old new : BoardView) (before after : Option (List ℕ)) : Type 0 where
+  pub entries : List (Entry I)
+  pub stored : AreStored rules Z H items old new entries
+  pub all : Stands rules Z (H ++ entries) new.octets
+  pub fewer : List (Entry I)
+  pub but_last : AllButLast entries fewer
+  pub written : (text : List ℕ) → before ≡ Some text → (part : List ℕ) × (after ≡ Some (text ++ part)) × IsPrefixOf (report_from says Z H fewer) part
+      × (IsPrefixOf part (report_from says Z H entries) ⊎ ((entry_items entries ≡ items) × IsPrefixOf part (report_from says Z H entries ++ ok_line (length items))))
+
 -- A run over a file that stands for the lawful history H, with this text, and its status.
 pub record RunAnswers {I M : Type 0} (rules : Rules I) (view : M → MachineView I) (scripts : ScriptRules I) (Z : List ℕ) (H : List (Entry I)) (text : List ℕ) (old new : BoardView) (before after : Option (List ℕ)) (writes_before writes_after status : ℕ) : Type 0 where
-  -- at every moment the file stands for a prefix of the run without a crash, with the steps that it prescribes
+  -- from the first sync on the file stands for a prefix of the run without a crash, with its steps
   pub headline : RunKeeps rules Z H (items_of_text scripts text H) old new
   -- at status 0 it is whole, and so is what was written
   pub whole : status ≡ 0 → RunIsWhole rules (says rules scripts) Z H (items_of_text scripts text H) old new before after
-  -- 4 exactly where a line is bad, and 5 exactly where another script is unfinished, unless something failed before
+  -- 5 exactly where another script is unfinished, and else 4 exactly where a line is bad, unless something failed before
   pub bad : status ≡ 4 → (number : ℕ) × (bad_line (said_of text) ≡ Some number) × RunStops rules (says rules scripts) Z H (items_of_text scripts text H) old new before after writes_before writes_after (bad_line_line number)
   -- where line 1 is good, nothing is pending then
   pub settled : status ≡ 4 → IsSome (said_of text) → (tolds : List Told) → tolds_of new.sent ≡ tolds_of old.sent ++ tolds → rules.pending Z (H ++ crash_free_run rules Z H (items_of_text scripts text H) tolds) ≡ None
@@ -115,10 +123,10 @@ pub record RunAnswers {I M : Type 0} (rules : Rules I) (view : M → MachineView
   -- where another script is unfinished, or line 1 is no head, nothing is written and nothing issued
   pub untouched : (status ≡ 5) ⊎ (said_of text ≡ None) → IsUntouched old new
   pub formatted : status ≢ 3
-  -- whatever else stopped it, it reported what is stored, and nothing else
-  pub stopped : IsOneOf status (6 ∷ 7 ∷ 9 ∷ 10 ∷ []) → (stop : Stop) × (status ≡ status_of stop) × RunReports rules (says rules scripts) Z H (items_of_text scripts text H) new before after writes_before writes_after stop
-  pub cut : status ≡ 8 → RunIsCut rules (says rules scripts) Z H (items_of_text scripts text H) new before after
-  -- 9 exactly where the next entry of the run without a crash has no room, unless something failed before
+  -- whatever else stopped it, it reported what is stored, but perhaps for one entry, and nothing else
+  pub stopped : IsOneOf status (6 ∷ 7 ∷ 9 ∷ 10 ∷ []) → (stop : Stop) × (status ≡ status_of stop) × RunReports rules (says rules scripts) Z H (items_of_text scripts text H) old new before after writes_before writes_after stop
+  pub cut : status ≡ 8 → RunIsCut rules (says rules scripts) Z H (items_of_text scripts text H) old new before after
+  -- 9 exactly where an entry of the run without a crash has no room, unless something failed before, or 4 or 5 comes at line 1
   pub full : status ≡ 9 → IsFullAt rules view Z H (items_of_text scripts text H) old new ⊎ HasLimit view
   pub is_full : IsSome (said_of text) → (IsOther (scripts.script_of H) (said_of text) → ⊥) → (tolds more : List Told) → tolds_of new.sent ≡ tolds_of old.sent ++ tolds
       → LacksRoom rules Z H (items_of_text scripts text H) (tolds ++ more) → IsOneOf status (6 ∷ 7 ∷ 8 ∷ 9 ∷ 10 ∷ [])
@@ -137,8 +145,7 @@ pub record RunCall {I M : Type 0} (rules : Rules I) (view : M → MachineView I)
   -- 3 exactly where the file stands for no lawful history, unless opening it fails; then nothing is written to it at any moment, and
   -- nothing issued
   pub unformatted : status ≡ 3 → IsTrue new.tells → StandsForNone rules old.octets
-  pub is_unformatted : IsTrue new.tells → StandsForNone rules old.octets → (IsOneOf status (3 ∷ 7 ∷ 10 ∷ []) ⊎ ((status ≡ 9) × HasLimit view))
-      × (new.octets ≡ old.octets) × (new.sent ≡ old.sent) × WritesNothing old new
+  pub is_unformatted : IsTrue new.tells → StandsForNone rules old.octets → (IsOneOf status (3 ∷ 7 ∷ 10 ∷ []) ⊎ ((status ≡ 9) × HasLimit view)) × IsUntouched old new
   -- at 3 the last line alone is written, or part of it where the sink failed
   pub says_unformatted : status ≡ 3 → (text : List ℕ) → before ≡ Some text → (part : List ℕ) × (after ≡ Some (text ++ part)) × IsPartOf part (last_line Unformatted) writes_before writes_after
   -- where the file stands for none, so it is at each answer
@@ -149,7 +156,7 @@ pub record RunCall {I M : Type 0} (rules : Rules I) (view : M → MachineView I)
   pub disk : status ≡ 7 → Rose old.disk_faults new.disk_faults
   pub output : status ≡ 8 → Rose writes_before writes_after
   -- 10 only before the first item, but for a machine that takes memory for its items
-  pub memory : status ≡ 10 → IsTrue rules.takes_memory ⊎ (IsTrue new.tells → (new.octets ≡ old.octets) × (new.sent ≡ old.sent))
+  pub memory : status ≡ 10 → IsTrue rules.takes_memory ⊎ (IsTrue new.tells → IsUntouched old new)
   -- where the file stands for a lawful history, all is right with the text and nothing fails, it ends with 0 or for want of memory
   pub complete : IsTrue new.tells → (Z : List ℕ) (H : List (Entry I)) (text : List ℕ) → Lawful rules Z H → Stands rules Z H old.octets → source ≡ Some text → MayEnd rules view scripts Z H text
       → IsOneOf status (0 ∷ 10 ∷ []) ⊎ (Rose reads_before reads_after ⊎ (Rose old.disk_faults new.disk_faults ⊎ Rose writes_before writes_after))

@@ -5,7 +5,7 @@ ghost use Rattle.pef_engine.specs.declared.entry.Entry.{Entry};
 ghost use Rattle.pef_engine.specs.Rules.{Lawful, Stands, StandsForNone};
 ghost use Rattle.script_run.specs.Report.{says};
 ghost use Rattle.script_run.specs.Playing.{Performs, AnswersNone, IsOpeningStop};
-ghost use Rattle.script_run.specs.Top.{RunCall, WritesNothing};
+ghost use Rattle.script_run.specs.Top.{RunCall, IsUntouched};
 ghost use Rattle.script_run.specs.Status.{Finishes, last_line, status_of};
 
 use crate::playing::play;
@@ -28,14 +28,13 @@ pub(crate) fn perform<M: Scripted, B: Board, S: Source, K: Sink>(
         Performs M.rules M.view (says M.rules M.scripts) M.scripts Z H text (B.view board.old) (B.view board.new) (K.written out.old) (K.written out.new) result }
     ensures unformatted { IsErrOf result Stop.Unformatted → IsTrue (B.view board.new).tells → StandsForNone M.rules (B.view board.old).octets }
     ensures nothing { IsTrue (B.view board.new).tells → StandsForNone M.rules (B.view board.old).octets →
-        AnswersNone M.view result × ((B.view board.new).octets ≡ (B.view board.old).octets) × ((B.view board.new).sent ≡ (B.view board.old).sent)
-        × WritesNothing (B.view board.old) (B.view board.new) }
+        AnswersNone M.view result × IsUntouched (B.view board.old) (B.view board.new) }
     // nothing is reported then
     ensures quiet { IsErrOf result Stop.Unformatted → out.new ≡ out.old }
     ensures silent { IsTrue (B.view board.new).tells → StandsForNone M.rules (B.view board.old).octets → out.new ≡ out.old }
     // want of memory comes before the first item, but to a machine that takes memory for its items
     ensures memory { IsErrOf result Stop.Memory → IsTrue M.rules.takes_memory
-        ⊎ (IsTrue (B.view board.new).tells → ((B.view board.new).octets ≡ (B.view board.old).octets) × ((B.view board.new).sent ≡ (B.view board.old).sent)) }
+        ⊎ (IsTrue (B.view board.new).tells → IsUntouched (B.view board.old) (B.view board.new)) }
     ensures disk { IsErrOf result Stop.Disk → Rose (B.view board.old).disk_faults (B.view board.new).disk_faults }
     ensures output { IsErrOf result Stop.Output → Rose (K.faults out.old) (K.faults out.new) }
     ensures input { IsErrOf result Stop.Input → Rose (S.faults source.old) (S.faults source.new) }

@@ -19,9 +19,9 @@ pub enum Stop {
     Disk,
     /// The sink failed.
     Output,
-    /// The next entry has no room.
+    /// The next entry has no room, in the file or by a limit of the machine's own.
     Full,
-    /// There is no memory for the next item.
+    /// There is no memory for the machine, or for the next item.
     Memory,
 }
 

@@ -7,7 +7,7 @@ use Rattle.pef_engine.specs.CrashFree.{IsPrefixOf}
 use Rattle.script_run.specs.declared.stop.Stop.{Stop}
 use Rattle.script_run.specs.Report.{says, outcome_line}
 use Rattle.script_run.proofs.RunLemmas.{runs_start, moments_behind, runs_compose, one_outcome, appends_ok, err_is, is_err}
-use Rattle.script_run.proofs.ReportLemmas.{appends_part, reports_failed, reports_cut}
+use Rattle.script_run.proofs.ReportLemmas.{told_once, appends_part, reports_failed, reports_cut}
 use Rattle.script_run.proofs.RoomLemmas.{had_room, full_now, too_much_outcome}
 use Rattle.script_run.proofs.Moves.{moves_none, moves_one, moves_compose, some_unless, some_of}
 use Rattle.script_run.proofs.settling.settle_and_say.Goals as goal
@@ -111,4 +111,4 @@ returns-in-Err-clause-reports g c = λ tells Z H holds.
     let p = c.steps.invariant.runs (c.settle.ensures.tells tells) Z H holds in
     let later = c.settle.ensures.any_moment tells Z (H ++ p.entries) p.holds in
     reports_failed g.M.Machine.rules g.M.Machine.view (says g.M.Machine.rules g.M.Scripted.scripts) Z H [] [] [] [] (view c.args.board.now) (view c.steps.board) (view c.settle.new.board) c.steps.engine c.settle.new.self (g.K.Sink.written c.args.out.now) (g.K.Sink.written c.steps.out) c.stop_of.result p later
-    (g.met.B.Board.sound c.settle.new.board) tells (λ not. ((c.in-Err.ensures.settled tells Z (H ++ p.entries) p.holds).refused refl (λ disk. not (c.stop_of.ensures.disk.1 (err_is disk)))).0) refl
+    (g.met.B.Board.sound c.settle.new.board) tells (λ tolds told. omega (arith, told_once (view c.steps.board).sent (view c.settle.new.board).sent (c.settle.ensures.once tells) tolds told)) (λ not. ((c.in-Err.ensures.settled tells Z (H ++ p.entries) p.holds).refused refl (λ disk. not (c.stop_of.ensures.disk.1 (err_is disk)))).0) refl

@@ -1,4 +1,4 @@
-use Rattle.std.proofs.Common.{ℕ, List, [], ◌∷◌, ◌++◌, Ok, sym, ap, subst, refl, IsTrue}
+use Rattle.std.proofs.Common.{arith, ℕ, List, [], ◌∷◌, ◌++◌, Ok, sym, ap, subst, refl, IsTrue}
 use Rattle.std.proofs.lemmas.Result.{err_from_is_err_and}
 use Rattle.board_core.specs.Board.{BoardView}
 use Rattle.pef_engine.specs.declared.entry.Entry.{Entry}
@@ -8,7 +8,7 @@ use Rattle.script_run.specs.declared.stop.Stop.{Stop}
 use Rattle.script_run.specs.Report.{says}
 use Rattle.script_run.specs.Run.{Runs, StopsFull}
 use Rattle.script_run.proofs.RunLemmas.{full_not_disk, moments_behind, runs_compose, one_item, appends_ok, on_ok_map, err_is, is_err}
-use Rattle.script_run.proofs.ReportLemmas.{appends_part, if_err_map, reports_failed_first, reports_cut_first, reports_behind}
+use Rattle.script_run.proofs.ReportLemmas.{told_none, appends_part, if_err_map, reports_failed_first, reports_cut_first, reports_behind}
 use Rattle.script_run.proofs.RoomLemmas.{had_room, full_at_once, full_behind, too_much_item}
 use Rattle.script_run.proofs.Moves.{moves_one, moves_compose}
 use Rattle.pef_engine.proofs.Stored.{lawful-append}
@@ -75,7 +75,7 @@ returns-clause-moves g c =
 pub returns-in-Err-clause-reports : goal.returns-in-Err-clause-reports
 returns-in-Err-clause-reports g c = λ tells Z H holds.
     reports_failed_first g.M.Machine.rules g.M.Machine.view (says g.M.Machine.rules g.M.Scripted.scripts) Z H (c.args.item ∷ []) (g.B.Board.view c.args.board.now) (g.B.Board.view c.take.new.board) c.take.new.self (g.K.Sink.written c.args.out.now) c.stop_of.result
-    (c.take.ensures.any_moment tells Z H holds) (g.met.B.Board.sound c.take.new.board) tells (λ not. (c.in-Err.ensures.taken tells Z H holds).refused refl (λ disk. not (c.stop_of.ensures.disk.1 (err_is disk))))
+    (c.take.ensures.any_moment tells Z H holds) (g.met.B.Board.sound c.take.new.board) tells (λ tolds told. omega (arith, told_none (g.B.Board.view c.args.board.now).sent (g.B.Board.view c.take.new.board).sent (c.in-Err.ensures.taken tells Z H holds).sent tolds told)) (λ not. (c.in-Err.ensures.taken tells Z H holds).refused refl (λ disk. not (c.stop_of.ensures.disk.1 (err_is disk))))
 
 pub returns-in_err-say_taken-clause-reports : goal.returns-in_err-say_taken-clause-reports
 returns-in_err-say_taken-clause-reports g c = λ tells Z H holds.

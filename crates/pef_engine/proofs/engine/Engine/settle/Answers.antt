@@ -1,4 +1,4 @@
-use Rattle.std.proofs.Common.{ℕ, List, [], ◌∷◌, ◌++◌, map, is_some, sym, ◌∙◌, ap, subst}
+use Rattle.std.proofs.Common.{inl, inr, refl, ℕ, List, [], ◌∷◌, ◌++◌, map, is_some, sym, ◌∙◌, ap, subst}
 use Rattle.std.proofs.lemmas.List.{map-append}
 use Rattle.board_core.specs.Board.{LeavesOnly, SameSteps}
 use Rattle.pef_engine.specs.declared.entry.Entry.TheVariants.{Outcome}
@@ -72,3 +72,19 @@ returns-clause-settled g c = λ tells Z H holds.
       );
       refused = λ err. absurd (cc err);
     }
+
+pub returns-in_default-clause-once : goal.returns-in_default-clause-once
+returns-in_default-clause-once g c = λ tells. inl refl
+
+pub returns-then-not-room-clause-once : goal.returns-then-not-room-clause-once
+returns-then-not-room-clause-once g c = λ tells. inl refl
+
+pub returns-in-Err-clause-once : goal.returns-in-Err-clause-once
+returns-in-Err-clause-once g c = λ tells.
+    let tells_w = c.append.ensures.run.tells tells in
+    inr (record { step = c.in-Some.step; told = c.issue-told.result }, c.append.ensures.run.sent tells ∙ c.issue-told.ensures.issued.sent tells_w)
+
+pub returns-clause-once : goal.returns-clause-once
+returns-clause-once g c = λ tells.
+    let tells_w = c.append.ensures.run.tells tells in
+    inr (record { step = c.in-Some.step; told = c.issue-told.result }, c.append.ensures.run.sent tells ∙ c.issue-told.ensures.issued.sent tells_w)
