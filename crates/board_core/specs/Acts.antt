@@ -3,7 +3,7 @@ use Rattle.std.specs.Prelude.{ℕ, List, codes}
 use Rattle.board_core.specs.declared.step.Act.{Act}
 use Rattle.board_core.specs.declared.step.Act.TheVariants.{PowerDown, PowerCycle, Reset, DiagInt, Oem}
 
--- the word of an action (IPMI 2.0, table 17-2)
+-- the word of an action; the words are this project's
 abbrev pub act_word : Act → List ℕ
 act_word PowerDown = codes "power-down"
 act_word PowerCycle = codes "power-cycle"

@@ -1,4 +1,5 @@
--- The system event log as a list of records, in the order in which they were added: IPMI 2.0, chapter 31.
+-- The system event log as a list of records, in the order in which they were added. That a record keeps the ID that it comes with, that
+-- a held ID is refused, and that a full log takes no more, is this project's rule.
 use Rattle.std.specs.Prelude.{◌≢◌, ℕ, ◌≤◌, ◌==◌, nat_lt, List, length, Option, Some, None, is_some, if◌then◌else◌}
 use Rattle.std.specs.List.{position, AllPairs}
 use Rattle.event_record.specs.Fields.{record_id}

@@ -1,4 +1,5 @@
--- Which sixteen octets are an event record: IPMI 2.0, section 32.1.
+-- Which sixteen octets are an event record: IPMI 2.0, section 32.1. That other record types than those are refused is this project's
+-- rule.
 use Rattle.std.specs.Prelude.{◌≡◌, ℕ, Bool, true, false, ◌==◌, ◌||◌, nat_le, List, length, Option, Some, None, if◌then◌else◌}
 use Rattle.event_record.specs.Fields.{record_id, record_type}
 use Rattle.event_record.specs.declared.fault.RecordFault.{RecordFault}

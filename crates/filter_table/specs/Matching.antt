@@ -1,5 +1,6 @@
--- When an event filter matches an event record: IPMI 2.0, section 17.7. How compare 1 and compare 2 of an event
--- data octet join where some bits are exact and others not, the standard leaves open: `Fits` is this project's reading.
+-- When an event filter matches an event record: IPMI 2.0, section 17.7. This project's readings are how compare 1 and compare 2 of an
+-- event data octet join where some bits are exact and others not (`Fits`), that the event trigger is compared with the whole octet 13
+-- of the record, and that OEM records match no filter.
 use Rattle.std.specs.Prelude.{◌≡◌, ℕ, ◌<◌, ◌⊎◌, List, bit_and}
 use Rattle.std.specs.Int.{bit_at}
 use Rattle.event_record.specs.Fields.{octet, record_type, sensor_type, sensor_number, event_trigger, event_offset}

@@ -1,4 +1,5 @@
--- Which records ask for a diagnostic interrupt: IPMI 2.0, sections 17.6 and 17.7.
+-- Which records ask for a diagnostic interrupt: those that the filter matches (IPMI 2.0, section 17.7) where it asks for one. Of the
+-- actions of section 17.6 there is this one alone today: other bits, their priorities and the action control mask have no effect.
 use Rattle.std.specs.Prelude.{ℕ, zero, suc, Bool, true, false, ◌&&◌, ◌||◌, ◌==◌, List, drop, filter, bit_and}
 use Rattle.std.specs.Int.{bit_at}
 use Rattle.event_record.specs.Fields.{octet, record_type, sensor_type, sensor_number, event_trigger, event_offset}

@@ -28,7 +28,7 @@ is_added (Refused fault) = false
 is_added (NotAdded fault) = false
 is_added Nothing = false
 
--- the log behind an event, which stands at its end where it was added: IPMI 2.0, chapter 31
+-- the log behind an event, which stands at its end where it was added
 abbrev pub log_by : List (List ℕ) → List ℕ → List (List ℕ)
 log_by log octets = if is_added (note_of log octets) then log ++ octets ∷ [] else log
 

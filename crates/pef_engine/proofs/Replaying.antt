@@ -67,9 +67,12 @@ module _ {I M : Type 0} (rules : Rules I) (view : M → MachineView I) (are : (Z
     settings = r.settings;
     before = r.done;
     lawful = r.lawful;
-    rest = (r.read tells).rest;
-    header = (r.read tells).file;
-    place = is ∙ (r.read tells).place;
+    reaches = record {
+      rest = (r.read tells).rest;
+      octets = (r.read tells).file;
+      behind = (r.read tells).behind;
+      place = is ∙ (r.read tells).place;
+    };
     broken = subst (λ k. image.IsCorruptAt now.octets k
         ⊎ ((payload : List ℕ) × image.HasEntryAt now.octets k payload × ((e : Entry I) → rules.is_entry e → rules.encode e ≡ payload → Allowed rules r.settings r.done e → ⊥))) (sym is) broken;
   }

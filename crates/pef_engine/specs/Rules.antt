@@ -59,14 +59,12 @@ StandsForSome {I} rules file = (Z : List ℕ) × (H : List (Entry I)) × Lawful 
 abbrev pub StandsForNone : {I : Type 0} → Rules I → List ℕ → Type 0
 StandsForNone {I} rules file = (Z : List ℕ) (H : List (Entry I)) → Lawful rules Z H → Stands rules Z H file → ⊥
 
--- At this gate the file stops standing for a lawful history: the gate or its entry doesn't lie within the file, or the
--- entry is none that may come behind those before it.
+-- At this gate the file stops standing for a lawful history: no entry and next gate lie within the file behind it, or the entry is
+-- none that may come behind those before it.
 pub record BreaksAt {I : Type 0} (rules : Rules I) (at : ℕ) (file : List ℕ) : Type 0 where
   pub settings : List ℕ
   pub before : List (Entry I)
   pub lawful : Lawful rules settings before
-  pub rest : List ℕ
-  pub header : image.HasHeader rules.kind settings (image.blocks (map rules.encode before) ++ rest) file
-  pub place : at ≡ length (image.header rules.kind settings ++ image.blocks (map rules.encode before))
+  pub reaches : image.ReachesGate rules.kind settings (map rules.encode before) at file
   pub broken : image.IsCorruptAt file at
       ⊎ ((payload : List ℕ) × image.HasEntryAt file at payload × ((e : Entry I) → rules.is_entry e → rules.encode e ≡ payload → Allowed rules settings before e → ⊥))

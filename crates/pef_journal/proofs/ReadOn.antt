@@ -82,12 +82,18 @@ front_entries (e ∷ es) rest (f ∷ fs) all has =
     let more = front_entries es rest fs all.1 (subst (HasEntries fs) (sym same.1) has.3) in
     (more.0, (λ i. same.0 i ∷ more.1 i), more.2)
 
+-- where entries and a closed gate stand, the file has something
+entries_some : (entries : List (List ℕ)) (rest : List ℕ) → HasEntries entries rest → rest ≡ [] → ⊥
+entries_some [] rest has none = cc (none, has.2)
+entries_some (e ∷ es) rest has none = cc (none, has.2)
+
 module _ (kind : ℕ) (Z : List ℕ) (before : List (List ℕ)) (v : BoardView) (journal : Journal) where
   -- a journal that stands before entries has read those that are before
   pub has_read : (after : List (List ℕ)) → IsAt kind Z before after v journal → HasRead kind Z before v journal
   has_read after at = record {
     rest = at.rest;
     file = at.file;
+    behind = entries_some after at.rest at.left;
     payloads = all_front before after (payloads_of (before ++ after) at.stands.0 at.stands.2);
     place = at.place;
     lasting = at.lasting;
@@ -142,6 +148,7 @@ pub still_read : (kind : ℕ) (Z : List ℕ) (before : List (List ℕ)) (v w : B
 still_read kind Z before v w journal new reads tells place r = record {
   rest = r.rest;
   file = (r.file.0, reads.octets tells ∙ r.file.1, r.file.2);
+  behind = r.behind;
   payloads = r.payloads;
   place = place ∙ r.place;
   lasting = λ c now. r.lasting c ((reads.images tells c).0 now) ∙ sym (reads.octets tells);
@@ -180,6 +187,7 @@ module _ (kind : ℕ) (Z : List ℕ) (before : List (List ℕ)) (v w : BoardView
         whole,
         λ none. absurd (omega (arith, ap length none, length-append (blocks (before ++ out ∷ [])) tail, some_behind v.octets journal.place n out within opens out_is)),
       );
+      behind = λ none. absurd (omega (arith, ap length none, some_behind v.octets journal.place n out within opens out_is));
       payloads = all_append before (out ∷ []) r.payloads (payload_out v.octets journal.place n out within opens out_is, tt);
       place = place_new;
       lasting = λ c now. r.lasting c ((reads.images tells c).0 now) ∙ sym (reads.octets tells);

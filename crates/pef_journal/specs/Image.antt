@@ -81,9 +81,16 @@ length_at file gate = slice_index file (gate + 1) + 256 * slice_index file (gate
 abbrev pub HasEntryWithin : List ℕ → ℕ → Type 0
 HasEntryWithin file gate = (1 ≤ length_at file gate) × (length_at file gate ≤ 520) × (gate + 3 + length_at file gate < length file)
 
--- no gate is at this place, or an open one whose entry and next gate don't lie within the file
+-- no gate is at this place, or an open one behind which no entry of 1 to 520 octets and the next gate lie within the file
 abbrev pub IsCorruptAt : List ℕ → ℕ → Type 0
 IsCorruptAt file gate = (length file ≤ gate) ⊎ (IsOpenAt file gate × (HasEntryWithin file gate → ⊥))
+
+-- the file has its header and these entries with their gates, and this is the place of the next gate, which is in the file
+pub record ReachesGate (kind : ℕ) (settings : List ℕ) (entries : List (List ℕ)) (gate : ℕ) (file : List ℕ) : Type 0 where
+  pub rest : List ℕ
+  pub octets : HasHeader kind settings (blocks entries ++ rest) file
+  pub behind : rest ≢ []
+  pub place : gate ≡ length (header kind settings ++ blocks entries)
 
 -- behind an open gate at this place stand this entry and the next gate
 abbrev pub HasEntryAt : List ℕ → ℕ → List ℕ → Type 0

@@ -1,5 +1,5 @@
 -- Where a journal stands in its file.
-use Rattle.std.specs.Prelude.{◌≡◌, ◌⊎◌, ℕ, ◌+◌, ◌≤◌, Bool, true, false, IsTrue, List, [], ◌∷◌, ◌++◌, length, Result, Ok, Err, ⊤}
+use Rattle.std.specs.Prelude.{◌≡◌, ◌≢◌, ◌⊎◌, ℕ, ◌+◌, ◌≤◌, Bool, true, false, IsTrue, List, [], ◌∷◌, ◌++◌, length, Result, Ok, Err, ⊤}
 use Rattle.board_core.specs.Board.{BoardView, CrashState, Only, SameSteps, Torn}
 use Rattle.pef_journal.specs.Image.{header, blocks, HasHeader, HasEntries, AllPayloads, Stands, IsShutAt, IsCorruptAt, HasEntryAt}
 use Rattle.pef_journal.specs.declared.fault.JournalFault.{JournalFault}
@@ -21,10 +21,11 @@ LeavesAsRead v left = SameSteps v left × (left.image ≡ v.octets)
 abbrev pub LeavesTorn : ℕ → ℕ → BoardView → CrashState → Type 0
 LeavesTorn place n v left = (image : List ℕ) × v.images image × Torn place n image left.image × SameSteps v left
 
--- it has read these entries, and stands behind the last of them, whatever comes next; all of it is on the disk
+-- it has read these entries, and stands at the gate behind the last of them, whatever that is; all of it is on the disk
 pub record HasRead (kind : ℕ) (settings : List ℕ) (before : List (List ℕ)) (v : BoardView) (journal : Journal) : Type 0 where
   pub rest : List ℕ
   pub file : HasHeader kind settings (blocks before ++ rest) v.octets
+  pub behind : rest ≢ []
   pub payloads : AllPayloads before
   pub place : journal.place ≡ length (header kind settings ++ blocks before)
   pub lasting : Only v.octets v.images

@@ -11,13 +11,13 @@ pub enum JournalFault {
     /// The octets aren't those of a file of this kind.
     #[error("the file is not formatted for this kind")]
     NotFormatted,
-    /// The gate at this place, or the entry behind it, doesn't lie within the file.
+    /// The gate at this place doesn't lie within the file, or no entry of 1 to 520 octets and the next gate do behind it.
     #[error("the file is corrupt at octet {at}")]
     Corrupt { at: u64 },
     /// The disk failed. The journal must be opened again.
     #[error("the disk failed")]
     DiskFault,
-    /// The file would pass 16,777,216 octets. Nothing has changed.
+    /// The header, the entries and the gate behind them would pass 16,777,216 octets. Nothing has changed.
     #[error("the file is full")]
     Full,
 }

@@ -12,7 +12,7 @@ use board_core::{Board, DiskFailed, Payload};
 pub enum Gate {
     /// The last entry stands before it.
     Closed,
-    /// The gate, or the entry behind it, doesn't lie within the file.
+    /// The gate doesn't lie within the file, or no entry of 1 to 520 octets and the next gate do behind it.
     Corrupt,
     /// Behind it stands an entry of so many octets.
     Open(usize),

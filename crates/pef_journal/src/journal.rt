@@ -2,7 +2,7 @@
 ghost use Rattle.std.specs.Prelude.{◌≡◌, ◌↔◌, IsTrue};
 ghost use Rattle.pef_journal.specs.Journal.{HasEnded, HasRoom};
 
-/// The longest file, in octets.
+/// The greatest length of a header, entries and the gate behind them, in octets.
 const MAX_FILE: u64 = 16_777_216;
 
 /// The entries of a file, read from the first gate to the first closed one and then added to.
@@ -29,7 +29,8 @@ impl Journal {
         self.ended
     }
 
-    /// True where an entry of so many octets fits: behind it the file has at most 16,777,216 octets.
+    /// True where an entry of so many octets fits: up to the gate behind it there are at most 16,777,216 octets. What lies behind the
+    /// last gate of a file that was longer before it was formatted doesn't count.
     pub fn room(&self, length: usize) -> bool
         ensures { IsTrue result ↔ HasRoom self.now length }
     {

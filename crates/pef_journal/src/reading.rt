@@ -11,8 +11,8 @@ use crate::journal::Journal;
 use board_core::{Board, Payload};
 
 impl Journal {
-    /// Hands out the next entry in `out`, or answers false at the first closed gate. `Corrupt` where the gate, or the entry
-    /// behind it, doesn't lie within the file, `DiskFault` only at a fault. One `len`, at most two `read_at`, and no memory is taken.
+    /// Hands out the next entry in `out`, or answers false at the first closed gate. `Corrupt` where the gate doesn't lie within the
+    /// file, or no entry of 1 to 520 octets and the next gate do behind it, `DiskFault` only at a fault. One `len`, at most two `read_at`, and no memory is taken.
     pub fn entry<B: Board>(
         &mut self,
         board: &mut B,

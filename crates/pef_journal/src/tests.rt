@@ -182,6 +182,39 @@ fn a_crash_in_append_leaves_the_entries_with_the_new_one_or_without(
     Ok(())
 }
 
+// How many calls were made of a board in memory: it has a last moment, two for each call.
+fn calls_of(alloc: Global, board: &MemBoard) -> Result<u64, Fail> {
+    let mut calls = 0;
+    'moments: for moment in 0..256 {
+        if board.crash(alloc, moment, 0)?.is_none() {
+            break 'moments;
+        }
+        calls = moment / 2;
+    }
+    Ok(calls)
+}
+
+#[test]
+fn an_append_makes_four_calls(rt: HostRuntime) -> Result<(), Fail> {
+    let alloc = rt.alloc();
+    let cases: [&[u8]; 3] = [
+        &[0],
+        &[0xA5, 1, 0, 3, 0],
+        &[0xA5, 1, 0, 3, 0xA5, 2, 0, 5, 6, 0],
+    ];
+    for behind in cases {
+        let mut read = console_with(alloc, behind)?;
+        let _ = read_all(alloc, &mut read)?;
+        let mut added = console_with(alloc, behind)?;
+        add(&mut added)?;
+        assert_eq!(rt;
+            calls_of(alloc, &added)?,
+            calls_of(alloc, &read)?.wrapping_add(4)
+        );
+    }
+    Ok(())
+}
+
 #[test]
 fn a_fault_says_what_is_wrong(rt: HostRuntime) -> Result<(), Fail> {
     let alloc = rt.alloc();

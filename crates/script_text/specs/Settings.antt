@@ -5,8 +5,8 @@ use Rattle.hex.specs.declared.error.FromHexError.{FromHexError}
 use Rattle.script_text.specs.Lines.{without_last}
 
 -- The 55 settings octets: system GUID, agent address, manufacturer ID and system ID are 0 each, the trap port and the two
--- OEM alert ports are 162, PEF control is 01h, the PEF action control mask 3Fh, the startup delay 0 (IPMI 2.0, chapter 30),
--- and then comes the filter.
+-- OEM alert ports are 162, PEF control is 01h, the PEF action control mask 3Fh, the startup delay 0 (parameters of IPMI 2.0,
+-- chapter 30; the values and their order are this project's), and then comes the filter.
 abbrev pub settings_octets : List ℕ → List ℕ
 settings_octets filter =
     replicate 16 0 ++ replicate 4 0 ++ replicate 4 0 ++ replicate 2 0

@@ -143,6 +143,12 @@ fn init_stops_at_each_call_of_the_disk(rt: HostRuntime) {
         };
         check(&rt, rt.alloc(), &WORDS, &failed);
     }
+    let later = Case {
+        what: "a disk that would fail at a tenth call",
+        failing_disk: &[9],
+        ..MADE_OF_NOTHING
+    };
+    check(&rt, rt.alloc(), &WORDS, &later);
     let before_the_text = Case {
         what: "a disk that fails before a bad text",
         text: "",

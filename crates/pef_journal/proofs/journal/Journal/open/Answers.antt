@@ -37,6 +37,7 @@ read g c = λ tells.
     record {
       rest = drop (4 + length Y) file;
       file = has;
+      behind = has.2;
       payloads = tt;
       place = omega (arith, same, ap length (append-nil Y));
       lasting = λ image now.
