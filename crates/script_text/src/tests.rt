@@ -1,3 +1,5 @@
+ghost use Rattle.board_core.specs.Causes.{IsCount};
+
 use super::*;
 use board_core::{Source, SourceFailed};
 
@@ -9,6 +11,7 @@ struct Pieces<'a> {
     fails: u64,
     reads: u64,
     faults: u64,
+    ghost counted: { IsCount faults },
 }
 
 impl<'a> Source for Pieces<'a> {
@@ -17,6 +20,8 @@ impl<'a> Source for Pieces<'a> {
     ghost left = { λ source. None };
 
     ghost faults = { λ source. source.faults };
+
+    ghost counted = { λ source. source.counted };
 
     fn read(&mut self, into: &mut [u8]) -> Result<usize, SourceFailed> {
         if self.reads == self.fails {
