@@ -1,9 +1,9 @@
 //! One event record.
 
-ghost use Rattle.std.specs.Prelude.{◌≡◌, IfOk};
+ghost use Rattle.std.specs.Prelude.{◌≡◌, ◌↔◌, ℕ, IfOk, IsOk, IsErrOf};
 ghost use Rattle.std.specs.Result.{result_err};
 ghost use Rattle.event_record.specs.Fields.{record_id, record_type, record_stamp, generator, sensor_type, sensor_number, event_trigger, event_data};
-ghost use Rattle.event_record.specs.Rules.{record_fault, IsRecord};
+ghost use Rattle.event_record.specs.Rules.{record_fault, HasReservedId, HasOtherType, IsRecord};
 
 use crate::fault::RecordFault;
 use byteorder::{ByteOrder, LittleEndian};
@@ -33,6 +33,13 @@ impl Record {
     /// The record in these octets. A reserved ID is refused before an unknown type.
     pub fn read(octets: &[u8; 16]) -> Result<Record, RecordFault>
         ensures refused { result_err result ≡ record_fault octets.now }
+
+        // the same in other words
+        ensures reserved { (id : ℕ) → IsErrOf result (RecordFault.ReservedId id) ↔ ((id ≡ record_id octets.now) × HasReservedId octets.now) }
+        ensures unknown { (kind : ℕ) → IsErrOf result (RecordFault.Kind kind)
+            ↔ ((kind ≡ record_type octets.now) × (HasReservedId octets.now → ⊥) × HasOtherType octets.now) }
+        ensures record { IsOk result ↔ IsRecord octets.now }
+
         ensures taken { IfOk result (λ event. event ≡ octets.now) }
     {
         let id = LittleEndian::read_u16(octets);

@@ -1,8 +1,9 @@
 //! The records that were logged.
 
-ghost use Rattle.std.specs.Prelude.{◌≡◌, [], ◌∷◌, ◌++◌, length, IfOk, OnOk, OnErr, slice_get, option_copied};
+ghost use Rattle.std.specs.Prelude.{◌≡◌, ◌↔◌, ◌<◌, ℕ, [], ◌∷◌, ◌++◌, length, map, IfOk, OnOk, OnErr, IsOk, IsErrOf, IfSome, IsSome, slice_get, slice_index, option_copied};
 ghost use Rattle.std.specs.Result.{result_err};
-ghost use Rattle.event_record.specs.Log.{place_in, add_fault, IsLog};
+ghost use Rattle.event_record.specs.Log.{place_in, add_fault, HoldsId, IsLog};
+ghost use Rattle.event_record.specs.Fields.{record_id};
 
 use crate::event::Record;
 use crate::fault::LogFault;
@@ -21,14 +22,13 @@ pub struct Log {
 
 impl Model for Log {
     ghost use Rattle.std.specs.Prelude.{List, ℕ, ◌≤◌, vec_capacity};
-    ghost use Rattle.event_record.specs.declared.log.TheConstants.{RECORDS};
     ghost use Rattle.event_record.specs.Log.{IsLog};
 
     ghost Value = { List (List ℕ) };
 
     ghost view = { λ l. l.records.items };
 
-    ghost invariant = { λ l. IsLog l.records.items × (RECORDS ≤ vec_capacity l.records) };
+    ghost invariant = { λ l. IsLog l.records.items × (1024 ≤ vec_capacity l.records) };
 }
 
 impl Log {
@@ -45,6 +45,12 @@ impl Log {
     /// holds 1,024 records. A refusal changes nothing.
     pub fn add(&mut self, event: Record) -> Result<(), LogFault>
         ensures refused { result_err result ≡ add_fault self.old event }
+
+        // the same in other words
+        ensures duplicate { (id : ℕ) → IsErrOf result (LogFault.Duplicate id) ↔ ((id ≡ record_id event) × HoldsId self.old id) }
+        ensures full { IsErrOf result LogFault.Full ↔ ((HoldsId self.old (record_id event) → ⊥) × (length self.old ≡ 1024)) }
+        ensures room { IsOk result ↔ ((HoldsId self.old (record_id event) → ⊥) × (length self.old < 1024)) }
+
         ensures added { OnOk result (self.new ≡ self.old ++ event ∷ []) }
         ensures kept { OnErr result (self.new ≡ self.old) }
     {
@@ -76,8 +82,17 @@ impl Log {
 
     /// The place of the record with this ID, counted from 0.
     pub fn place_of(&self, id: u16) -> Option<usize>
-        ensures { result ≡ place_in self.now id }
+        ensures place { result ≡ place_in self.now id }
+        ensures held { IsSome result ↔ HoldsId self.now id }
+        ensures there { IfSome result (λ place. (place < length self.now) × (slice_index (map record_id self.now) place ≡ id)) }
     {
-        self.records.iter().position(|event| event.id() == id)
+        first_with(&self.records, id)
     }
+}
+
+// The place of the first record with this ID.
+fn first_with(records: &[Record], id: u16) -> Option<usize>
+    ensures { result ≡ place_in records.now id }
+{
+    records.iter().position(|event| event.id() == id)
 }

@@ -1,4 +1,8 @@
--- The body and the specific number of an event: PET 1.0, over the fields of IPMI 2.0, section 32.1.
+-- The body and the specific number of an event: the fields of PET 1.0, filled from those of IPMI 2.0, section 32.1.
+--
+-- What stands in a field that a record doesn't give is this project's rule, and not that of PET 1.0: UTC offset FFFFh, both source types
+-- 20h, entity and instance 00h, event data 4 to 8 00h, language FFh, and without a record timestamp 0, device 20h, sensor 00h, event
+-- data 00h and specific number 0. So is that a time before 1998 counts as not known.
 use Rattle.std.specs.Prelude.{ℕ, ◌+◌, ◌-◌, ◌*◌, ◌/◌, ◌%◌, ◌==◌, List, [], ◌∷◌, ◌++◌, take, Option, Some, None, if◌then◌else◌}
 use Rattle.event_record.specs.Fields.{octet, record_stamp, sensor_type, sensor_number, event_trigger, event_data, event_offset}
 use Rattle.pet_body.specs.declared.body.Body.{Body}

@@ -1,4 +1,5 @@
--- The octets of a platform event trap's body: PET 1.0, whose table counts octets from 1.
+-- The octets of a platform event trap's body: PET 1.0, whose table counts octets from 1. That a body is refused for its length alone is
+-- this project's rule.
 use Rattle.std.specs.Prelude.{ℕ, ◌+◌, ◌-◌, List, [], ◌∷◌, length, take, drop, slice_index, nat_lt, Option, Some, None, if◌then◌else◌}
 use Rattle.std.specs.List.{concat}
 use Rattle.byteorder.specs.Endian.{big_number, big_bytes}

@@ -1,4 +1,5 @@
--- A text in the tail of a body. PET 1.0 lets a tail hold fields that each begin with a length octet, and C1h ends them.
+-- A text in the tail of a body. PET 1.0 lets a tail hold fields that each begin with a length octet, and C1h ends them. In which field a
+-- text stands, that 00h ends it, and that a tail of another form has no text, is this project's rule.
 use Rattle.std.specs.Prelude.{ℕ, ◌+◌, ◌-◌, Bool, ◌==◌, ◌&&◌, nat_le, nat_lt, List, [], ◌∷◌, ◌++◌, length, take, slice_index, if◌then◌else◌}
 
 -- the end alone for the empty text; else the length octet, the text, 00h and the end

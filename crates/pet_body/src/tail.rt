@@ -1,4 +1,4 @@
-//! The text in the tail of a body.
+//! The text in the tail of a body, in a form that is this project's.
 
 ghost use Rattle.std.specs.Prelude.{◌≡◌};
 ghost use Rattle.pet_body.specs.Tail.{tail_for, text_in};

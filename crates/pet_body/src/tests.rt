@@ -156,10 +156,12 @@ fn a_body_has_46_to_110_octets(rt: HostRuntime) -> Result<(), Fail> {
         assert_eq!(rt; body.write().as_slice(), &octets[..length]);
     }
     let alloc = rt.alloc();
-    let short = BodyFault::Short(45);
-    assert_eq!(rt;
-        format!(in alloc; "{short}")?.as_str(),
-        "a body of 45 octets is too short"
-    );
+    let texts = [
+        (BodyFault::Short(45), "a body of 45 octets is too short"),
+        (BodyFault::Long(111), "a body of 111 octets is too long"),
+    ];
+    for (fault, text) in texts {
+        assert_eq!(rt; format!(in alloc; "{fault}")?.as_str(), text);
+    }
     Ok(())
 }

@@ -1,5 +1,10 @@
--- What a trap message is: RFC 1157, sections 4 and 4.1.6, spelled by the basic encoding rules (X.690, section 8.1),
--- with the enterprise and the one binding of PET 1.0. Octets are a concatenation of elements.
+-- What a trap message is: the elements of RFC 1157, sections 4 and 4.1.6, each a tag, a length and contents (X.690, section 8.1), with
+-- the enterprise and the binding of PET 1.0. Octets are a concatenation of elements.
+--
+-- This project's own rules, which are in none of them: a long length has at most four octets behind its first one, and may have more
+-- than it needs; a number has 1 to 5 octets and is read as unsigned, so that the contents FFh are 255, where X.690 reads -1; it is below
+-- 2^32; the community may have any length; further bindings may stand before the one of PET 1.0 and behind it, and the first with its
+-- name counts; the value of another binding has any tag of one octet, and isn't read.
 use Rattle.std.specs.Prelude.{◌≡◌, ◌≢◌, ◌⊎◌, ℕ, ◌+◌, ◌*◌, ◌%◌, ◌^◌, ◌<◌, ◌≤◌, List, [], ◌∷◌, ◌++◌, length}
 
 -- the number of these octets, the most significant first
@@ -19,7 +24,7 @@ pub record IsElement (octets : List ℕ) (tag : ℕ) (contents : List ℕ) : Typ
   pub is_length : IsLength spelled (length contents)
   pub parts : octets ≡ tag ∷ spelled ++ contents
 
--- a number below 2^32 in 1 to 5 octets, the most significant first
+-- a number below 2^32 in 1 to 5 octets, the most significant first, none of which is a sign
 pub record IsNumber (contents : List ℕ) (n : ℕ) : Type 0 where
   pub some : 1 ≤ length contents
   pub few : length contents ≤ 5

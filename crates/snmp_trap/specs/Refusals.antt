@@ -1,5 +1,6 @@
 -- Why octets are no trap message, and where: the elements are taken in the order in which they stand, each one's header
 -- before its contents. On all before none of the rows holds, and of the rows on the next one the first counts.
+-- The reasons, their order and their places are this project's: neither RFC 1157 nor X.690 says how a receiver names what it refuses.
 use Rattle.std.specs.Prelude.{◌≡◌, ◌≢◌, ◌⊎◌, ℕ, zero, suc, ◌+◌, ◌%◌, ◌<◌, Bool, true, false, not, ◌&&◌, ◌||◌, List, [], ◌∷◌, ◌++◌, length, ◌==◌, bytes_eq}
 use Rattle.snmp_trap.specs.declared.refusal.Refusal.{Refusal}
 use Rattle.snmp_trap.specs.declared.refusal.Why.{Why}

@@ -1,4 +1,5 @@
--- The shortest spelling of a trap: shortest lengths, shortest numbers and the one binding.
+-- The shortest spelling of a trap: shortest lengths, shortest numbers and the one binding. That a sender writes this spelling of those
+-- that X.690 allows is this project's rule.
 use Rattle.std.specs.Prelude.{◌≡◌, ℕ, ◌<◌, ◌≤◌, ◌^◌, List, [], ◌∷◌, ◌++◌, length}
 use Rattle.std.specs.List.{AllByRecursion}
 use Rattle.snmp_trap.specs.Grammar.{IsLength, IsBody, number_of, pet_enterprise, body_name, Seen}

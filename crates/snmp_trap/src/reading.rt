@@ -126,7 +126,8 @@ fn read(octets: &[u8]) -> Result<TrapView<'_>, Refusal>
 /// The trap message that the octets are, all of them, borrowed from them.
 ///
 /// Lengths may be longer than needed, the community may have any length, and other bindings may stand beside the
-/// body's, of which the first counts. What isn't a trap message is refused for the first thing that is wrong.
+/// body's, of which the first counts. What isn't a trap message is refused for the first thing that is wrong. Which octets are
+/// taken beside a sender's usual ones, and how a refusal is named, is this project's rule: `02 01 FF` is read as 255.
 pub fn decode(octets: &[u8]) -> Result<TrapView<'_>, Refusal>
     // What is read stands there.
     ensures view { IfOk result (λ v. IsTrap octets.now (seen v)) }

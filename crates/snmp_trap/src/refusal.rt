@@ -1,7 +1,7 @@
 use std::error::Error;
 use std::fmt;
 
-/// What keeps octets from being a trap message.
+/// What keeps octets from being a trap message. The reasons, their order and their places are this project's.
 #[derive(Clone, Copy, Debug, PartialEq, Eq)]
 pub enum Why {
     /// The message reaches past the end of the input.

@@ -208,12 +208,47 @@ fn writes_the_vector_and_the_numbers_of_each_length(rt: HostRuntime) {
 }
 
 #[test]
+fn a_number_has_no_sign(rt: HostRuntime) {
+    // The specific number in the place of the vector's, the lengths of the message and of the trap, and what it says.
+    let cases: [(&[u8], u8, u8, u32); 3] = [
+        (&[0x02, 0x01, 0xFF], 0x68, 0x5B, 255),
+        (&[0x02, 0x01, 0x80], 0x68, 0x5B, 128),
+        (&[0x02, 0x03, 0xFF, 0x01, 0x02], 0x6A, 0x5D, 0xFF_01_02),
+    ];
+    for (number, message, trap, says) in cases {
+        let mut octets = changed(35, &[(1, message), (14, trap)], number);
+        octets.extend(&VECTOR[TICKS..]);
+        let view = TrapView {
+            specific: says,
+            ..seen()
+        };
+        assert_eq!(rt; decode(octets.as_slice()), Ok(view));
+    }
+}
+
+#[test]
 fn a_refusal_says_what_is_wrong_and_where(rt: HostRuntime) -> Result<(), Fail> {
-    let refusal = Refusal {
-        at: 43,
-        why: Why::NoBinding,
-    };
-    let text = format!(in rt.alloc(); "{refusal}")?;
-    assert_eq!(rt; text.as_str(), "no binding has the name at octet 43");
+    let cases = [
+        (Why::Truncated, "the message is cut short"),
+        (Why::Tag, "another element is wanted"),
+        (Why::Length, "bad length"),
+        (Why::Over, "an element reaches past the one around it"),
+        (Why::Trailing, "octets follow the last element"),
+        (
+            Why::Integer,
+            "a number has no octets, more than 5, or more than 32 bits",
+        ),
+        (Why::Version, "the version isn't 0"),
+        (Why::Enterprise, "another enterprise"),
+        (Why::Generic, "the generic trap isn't 6"),
+        (Why::NoBinding, "no binding has the name"),
+        (Why::Body, "the body hasn't 46 to 110 octets"),
+    ];
+    for (why, text) in cases {
+        let refusal = Refusal { at: 43, why };
+        let said = format!(in rt.alloc(); "{refusal}")?;
+        let wanted = format!(in rt.alloc(); "{text} at octet 43")?;
+        assert_eq!(rt; said.as_str(), wanted.as_str());
+    }
     Ok(())
 }

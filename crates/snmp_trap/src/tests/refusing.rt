@@ -81,6 +81,7 @@ fn refuses_a_changed_vector_at_its_place(rt: HostRuntime) {
         ((33, 0x00), NONE, Why::Integer, GENERIC),
         ((33, 0x06), NONE, Why::Integer, GENERIC),
         ((34, 0x05), NONE, Why::Generic, GENERIC),
+        ((34, 0x07), NONE, Why::Generic, GENERIC),
         // The specific number.
         ((SPECIFIC, 0x04), NONE, Why::Tag, SPECIFIC),
         ((36, 0x00), NONE, Why::Integer, SPECIFIC),
@@ -107,6 +108,8 @@ fn refuses_a_changed_vector_at_its_place(rt: HostRuntime) {
         ((48, 0x80), NONE, Why::Length, 48),
         ((48, 0x3C), NONE, Why::Over, NAME),
         ((49, 0x2A), NONE, Why::NoBinding, LIST),
+        ((57, 0x02), NONE, Why::NoBinding, LIST),
+        ((58, 0x02), NONE, Why::NoBinding, LIST),
         ((49, 0x2A), (VALUE, 0x05), Why::NoBinding, LIST),
         ((49, 0x2A), (VALUE, 0x1F), Why::Tag, VALUE),
         ((49, 0x2A), (VALUE, 0xFF), Why::Tag, VALUE),
@@ -191,6 +194,12 @@ fn refuses_what_is_cut_or_followed(rt: HostRuntime) {
         let octets = changed(108, &changes, &tail);
         assert_eq!(rt; decode(octets.as_slice()).err(), Some(Refusal { at, why }));
     }
+    let one_more = changed(108, &[], &[0x00]);
+    let refusal = Refusal {
+        at: 108,
+        why: Why::Trailing,
+    };
+    assert_eq!(rt; decode(one_more.as_slice()).err(), Some(refusal));
     let empty_list = changed(45, &[(1, 0x2B), (14, 0x1E), (44, 0x00)], &[]);
     let refusal = Refusal {
         at: LIST,
