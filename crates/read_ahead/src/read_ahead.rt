@@ -58,8 +58,8 @@ impl<B: Board> ReadAhead<B> {
     // Moves the window to a place. False where it has no room for so many octets, or the file ends before.
     fn move_to(&mut self, place: u64, count: usize) -> Result<bool, DiskFailed>
         ensures moved { IfOk result (λ moved. moved ≡ true → Keeps self.new place count) }
-        ensures ahead { IsTrue (B.view self.new.board).tells → HasRoomFor (B.view self.old.board) (place + count) → count ≤ SIZE →
-            OnOk result (Keeps self.new place (min SIZE (length (B.view self.old.board).octets - place))) }
+        ensures ahead { IsTrue (B.view self.new.board).tells → HasRoomFor (B.view self.old.board) (place + count) → count ≤ 8192 →
+            OnOk result (Keeps self.new place (min 8192 (length (B.view self.old.board).octets - place))) }
         ensures same { Reads (B.view self.old.board) (B.view self.new.board) }
         ensures cause { HasCause (B.view self.old.board).disk_faults (B.view self.new.board).disk_faults result }
     {
@@ -104,8 +104,8 @@ impl<B: Board> Board for ReadAhead<B> {
         ensures same { Reads (B.view self.old.board) (B.view self.new.board) }
         ensures cause { HasCause (B.view self.old.board).disk_faults (B.view self.new.board).disk_faults result }
         ensures no_call { Keeps self.old place (length into.old) → IsOk result × (self.new ≡ self.old) }
-        ensures ahead { IsTrue (B.view self.new.board).tells → (Keeps self.old place (length into.old) → ⊥) → length into.old ≤ SIZE →
-            OnOk result (Keeps self.new place (min SIZE (length (B.view self.old.board).octets - place))) }
+        ensures ahead { IsTrue (B.view self.new.board).tells → (Keeps self.old place (length into.old) → ⊥) → length into.old ≤ 8192 →
+            OnOk result (Keeps self.new place (min 8192 (length (B.view self.old.board).octets - place))) }
     {
         if self.window.holds(place, into.len()) {
             self.window.copy(place, into);

@@ -72,7 +72,7 @@ impl Window {
         place: u64,
         count: usize,
     ) -> Result<(), DiskFailed>
-        requires count { count ≤ SIZE }
+        requires count { count ≤ 8192 }
         requires place { HasRoomFor (B.view board.old) (place + count) }
         ensures octets { IsTrue (B.view board.new).tells → IsOf self.new (B.view board.new).octets }
         ensures filled { OnOk result (IsRange place count self.new) }
