@@ -9,7 +9,7 @@ use Rattle.asf_rmcp.specs.Refusals.{fault, packet_fault, lan_fault}
 use Rattle.asf_rmcp.specs.Columns.{packet_in, lan_in}
 use Rattle.asf_rmcp.specs.Laws.{IsOneAnswer}
 use Rattle.asf_rmcp.proofs.Packets.{packet_sound, packet_complete}
-use Rattle.asf_rmcp.proofs.Messages.{lan_sound, lan_complete}
+use Rattle.asf_rmcp.proofs.Lan.{lan_sound, lan_complete}
 
 -- where there is no fault the value is accepted, and where a value is accepted there is no fault, and it is this value
 pub record Exact {A : Type 0} (refused : Option FrameFault) (value : A) (accepts : A → Type 0) : Type 0 where

@@ -18,15 +18,6 @@ four (a ∷ b ∷ []) h = absurd (omega arith)
 four (a ∷ b ∷ c ∷ []) h = absurd (omega arith)
 four (a ∷ b ∷ c ∷ d ∷ rest) h = record { a = a; b = b; c = c; d = d; rest = rest; parts = refl; size = omega arith }
 
-pub four_left : (n k : ℕ) → n ≡ 4 + k → 4 ≤ n
-four_left n k e = omega arith
-
-less_four : (n k m : ℕ) → n ≡ 4 + m → n ≡ 4 + k → m ≡ k
-less_four n k m e f = omega arith
-
-pub left : (k : ℕ) (octets : List ℕ) (f : Four octets) → length octets ≡ 4 + k → length f.rest ≡ k
-left k octets f e = less_four (length octets) k (length f.rest) f.size e
-
 -- the first twelve octets
 pub record Twelve (octets : List ℕ) : Type 0 where
   pub first : Four octets

@@ -1,6 +1,7 @@
 //! Why octets are no frame.
 
-ghost use Rattle.std.specs.Prelude.{◌≡◌};
+ghost use Rattle.std.specs.Prelude.{◌≡◌, if◌then◌else◌};
+ghost use Rattle.asf_rmcp.specs.Refusals.{fault};
 
 use thiserror::Error;
 
@@ -55,11 +56,20 @@ pub struct FrameFault {
 }
 
 impl FrameFault {
-    ghost use Rattle.asf_rmcp.specs.Refusals.{fault};
-
     pub(crate) fn new(at: usize, why: FrameWhy) -> FrameFault
         ensures { result ≡ fault at why }
     {
         FrameFault { at, why }
+    }
+}
+
+/// Refuses the octets for this, at this place, unless the condition holds.
+pub fn ensure(holds: bool, at: usize, why: FrameWhy) -> Result<(), FrameFault>
+    ensures { result ≡ (if holds then Ok tt else Err (fault at why)) }
+{
+    if holds {
+        Ok(())
+    } else {
+        Err(FrameFault::new(at, why))
     }
 }

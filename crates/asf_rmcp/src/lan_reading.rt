@@ -8,9 +8,9 @@ ghost use Rattle.asf_rmcp.specs.Refusals.{fault, first, lan_rows, message_rows, 
 ghost use Rattle.asf_rmcp.specs.Columns.{message_in, lan_in};
 
 use crate::checksum::checksum;
-use crate::fault::{FrameFault, FrameWhy};
+use crate::fault::{FrameFault, FrameWhy, ensure};
+use crate::header::{IPMI, header};
 use crate::message::LanMessage;
-use crate::reading::{IPMI, header};
 use board_core::Bytes;
 
 /// The octets of the message in a frame with this class octet.
@@ -21,36 +21,26 @@ fn message(octets: &[u8], class: u8) -> Result<&[u8], FrameFault>
     ensures least { IfOk result (λ m. 7 ≤ length m.now) }
     ensures most { IfOk result (λ m. length m.now ≤ 71) }
 {
-    if class != IPMI {
-        return Err(FrameFault::new(3, FrameWhy::Class));
-    }
+    ensure(class == IPMI, 3, FrameWhy::Class)?;
     let short = FrameFault::new(octets.len(), FrameWhy::Short);
     let [_, _, _, _, auth, rest @ ..] = octets else {
         return Err(short);
     };
-    if *auth != 0 {
-        return Err(FrameFault::new(4, FrameWhy::Auth));
-    }
+    ensure(*auth == 0, 4, FrameWhy::Auth)?;
     if rest.len() < 8 {
         return Err(short);
     }
     let (session, rest) = rest.split_at(8);
-    if session != [0; 8].as_slice() {
-        return Err(FrameFault::new(5, FrameWhy::Session));
-    }
+    ensure(session == [0; 8].as_slice(), 5, FrameWhy::Session)?;
     let [length, rest @ ..] = rest else {
         return Err(short);
     };
     let length = usize::from(*length);
-    if length < 7 || 71 < length {
-        return Err(FrameFault::new(13, FrameWhy::Length));
-    }
+    ensure((7..=71).contains(&length), 13, FrameWhy::Length)?;
     if rest.len() < length {
         return Err(short);
     }
-    if length + 1 < rest.len() {
-        return Err(FrameFault::new(15 + length, FrameWhy::Trailing));
-    }
+    ensure(rest.len() <= length + 1, 15 + length, FrameWhy::Trailing)?;
     Ok(&rest[..length])
 }
 
@@ -59,11 +49,7 @@ fn check(at: usize, have: u8, octets: &[u8]) -> Result<(), FrameFault>
     ensures { result_err result ≡ first (checked at have octets.now ∷ []) }
 {
     let want = checksum(octets);
-    if have == want {
-        Ok(())
-    } else {
-        Err(FrameFault::new(at, FrameWhy::Checksum { want, have }))
-    }
+    ensure(have == want, at, FrameWhy::Checksum { want, have })
 }
 
 /// What the octets of a message say.

@@ -4,8 +4,8 @@ ghost use Rattle.asf_rmcp.specs.Layout.{IsLan};
 ghost use Rattle.asf_rmcp.specs.Writing.{lan_frame};
 
 use crate::checksum::checksum;
+use crate::header::{IPMI, VERSION};
 use crate::message::LanMessage;
-use crate::reading::{IPMI, VERSION};
 use crate::writing::put;
 use board_core::Octets;
 

@@ -4,6 +4,7 @@
 mod ack;
 mod checksum;
 mod fault;
+mod header;
 mod lan_reading;
 mod lan_writing;
 mod laws;
@@ -19,3 +20,6 @@ pub use lan_writing::lan_write;
 pub use laws::{one_message, one_packet};
 pub use message::LanMessage;
 pub use packet::{Packet, ack_of, pong};
+
+#[cfg(test)]
+mod tests;

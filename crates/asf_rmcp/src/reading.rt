@@ -1,23 +1,15 @@
 //! RMCP frames are read: ASF 2.0, section 3.2.
-ghost use Rattle.std.specs.Prelude.{◌≡◌, ℕ, slice_index, IfOk, IfErr};
+ghost use Rattle.std.specs.Prelude.{◌≡◌, ℕ, IfOk, IfErr};
 ghost use Rattle.std.specs.Result.{result_err};
 ghost use Rattle.asf_rmcp.specs.declared.packet.Packet.{Packet};
 ghost use Rattle.asf_rmcp.specs.declared.fault.FrameWhy.{FrameWhy};
 ghost use Rattle.asf_rmcp.specs.Layout.{IsPacket};
-ghost use Rattle.asf_rmcp.specs.Refusals.{fault, first, header_rows, asf_rows, packet_fault, RefusedPacket};
+ghost use Rattle.asf_rmcp.specs.Refusals.{fault, first, asf_rows, packet_fault, RefusedPacket};
 ghost use Rattle.asf_rmcp.specs.Columns.{asf_in, packet_in};
 
-use crate::fault::{FrameFault, FrameWhy};
+use crate::fault::{FrameFault, FrameWhy, ensure};
+use crate::header::{ASF, IPMI, header};
 use crate::packet::Packet;
-
-/// RMCP version 1.0.
-pub const VERSION: u8 = 0x06;
-
-/// The class of ASF messages.
-pub const ASF: u8 = 0x06;
-
-/// The class of IPMI messages.
-pub const IPMI: u8 = 0x07;
 
 /// 4542, the enterprise number of ASF.
 pub const ENTERPRISE: [u8; 4] = [0x00, 0x00, 0x11, 0xBE];
@@ -28,28 +20,6 @@ pub const PING: u8 = 0x80;
 /// The type of a presence pong.
 pub const PONG: u8 = 0x40;
 
-/// The sequence number and the class octet of a frame.
-pub fn header(octets: &[u8]) -> Result<(u8, u8), FrameFault>
-    ensures refused { result_err result ≡ first (header_rows octets.now) }
-    ensures sequence { IfOk result (λ h. h.0 ≡ slice_index octets.now 2) }
-    ensures class { IfOk result (λ h. h.1 ≡ slice_index octets.now 3) }
-{
-    let short = FrameFault::new(octets.len(), FrameWhy::Short);
-    let [version, rest @ ..] = octets else {
-        return Err(short);
-    };
-    if *version != VERSION {
-        return Err(FrameFault::new(0, FrameWhy::Version));
-    }
-    let [_, sequence, class, ..] = rest else {
-        return Err(short);
-    };
-    match class & 0x7F {
-        ASF | IPMI => Ok((*sequence, *class)),
-        _ => Err(FrameFault::new(3, FrameWhy::Class)),
-    }
-}
-
 /// The ping or the pong in a frame of class ASF.
 fn asf(octets: &[u8]) -> Result<Packet, FrameFault>
     ensures refused { result_err result ≡ first (asf_rows octets.now) }
@@ -59,28 +29,20 @@ fn asf(octets: &[u8]) -> Result<Packet, FrameFault>
     let [_, _, sequence, _, a, b, c, d, rest @ ..] = octets else {
         return Err(short);
     };
-    if [*a, *b, *c, *d] != ENTERPRISE {
-        return Err(FrameFault::new(4, FrameWhy::Enterprise));
-    }
+    ensure([*a, *b, *c, *d] == ENTERPRISE, 4, FrameWhy::Enterprise)?;
     let [kind, rest @ ..] = rest else {
         return Err(short);
     };
-    if *kind != PING && *kind != PONG {
-        return Err(FrameFault::new(8, FrameWhy::Kind));
-    }
+    ensure(*kind == PING || *kind == PONG, 8, FrameWhy::Kind)?;
     let [tag, _, length, data @ ..] = rest else {
         return Err(short);
     };
     let wanted = if *kind == PONG { 16 } else { 0 };
-    if usize::from(*length) != wanted {
-        return Err(FrameFault::new(11, FrameWhy::Length));
-    }
+    ensure(usize::from(*length) == wanted, 11, FrameWhy::Length)?;
     if data.len() < wanted {
         return Err(short);
     }
-    if wanted < data.len() {
-        return Err(FrameFault::new(12 + wanted, FrameWhy::Trailing));
-    }
+    ensure(data.len() <= wanted, 12 + wanted, FrameWhy::Trailing)?;
     let (sequence, tag) = (*sequence, *tag);
     match data {
         [] => Ok(Packet::Ping { sequence, tag }),

@@ -3,8 +3,9 @@ ghost use Rattle.std.specs.Prelude.{◌≡◌, ◌+◌, ◌≤◌, ◌++◌, len
 ghost use Rattle.asf_rmcp.specs.Layout.{IsPacket};
 ghost use Rattle.asf_rmcp.specs.Writing.{IsWritable, frame_of};
 
+use crate::header::{ASF, VERSION};
 use crate::packet::Packet;
-use crate::reading::{ASF, ENTERPRISE, PING, PONG, VERSION};
+use crate::reading::{ENTERPRISE, PING, PONG};
 use board_core::Octets;
 
 /// Appends octets.
