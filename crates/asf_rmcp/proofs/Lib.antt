@@ -1,0 +1,10 @@
+pub mod Rows
+pub mod Lists
+pub mod Checksums
+pub mod Asf
+pub mod Packets
+pub mod Messages
+pub mod Lan
+pub mod Answered
+pub mod Written
+pub mod Examples

@@ -1,0 +1,5 @@
+pub mod Layout
+pub mod Refusals
+pub mod Columns
+pub mod Writing
+pub mod Laws
