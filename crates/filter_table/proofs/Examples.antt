@@ -8,7 +8,6 @@ use Rattle.filter_table.specs.declared.data_test.DataTest.{DataTest}
 use Rattle.filter_table.specs.Matching.{Fits, HasOffset, Matches}
 use Rattle.filter_table.specs.BitTest.{fits, is_match}
 use Rattle.filter_table.specs.Filters.{numbered, no_filters, number_fault}
-use Rattle.filter_table.specs.declared.fault.NoSuch.{NoSuch}
 
 abbrev test_of : ℕ → ℕ → ℕ → DataTest
 test_of mask compare_1 compare_2 = record { mask = mask; compare_1 = compare_1; compare_2 = compare_2 }

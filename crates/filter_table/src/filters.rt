@@ -8,7 +8,7 @@ use crate::filter::Filter;
 use std::marker::Model;
 
 /// How many filters the table has.
-pub const FILTERS: usize = 16;
+const FILTERS: usize = 16;
 
 /// The event filter table: sixteen filters, counted from 1 (IPMI 2.0, section 17.7).
 #[derive(Drop)]

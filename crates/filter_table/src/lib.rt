@@ -12,6 +12,6 @@ mod tests;
 
 pub use fault::NoSuch;
 pub use filter::Filter;
-pub use filters::{FILTERS, Filters};
+pub use filters::Filters;
 pub use laws::matching_law;
 pub use matching::matches;

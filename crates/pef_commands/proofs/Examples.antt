@@ -1,6 +1,5 @@
 -- Worked examples of the definitions: requests, and the commands that they are.
-use Rattle.std.proofs.Common.{◌≡◌, ℕ, true, false, List, [], ◌∷◌, Some, None, Result, Ok, Err, refl, replicate}
-use Rattle.pef_commands.specs.declared.command.Command.{Command}
+use Rattle.std.proofs.Common.{◌≡◌, ℕ, true, false, List, [], ◌∷◌, Some, None, Ok, Err, refl, replicate}
 use Rattle.pef_commands.specs.declared.command.Command.TheVariants.{SetPef, GetPef, SetLan, GetLan}
 use Rattle.pef_commands.specs.Request.{Asked, request_of}
 use Rattle.pef_commands.specs.Parsing.{parsed}

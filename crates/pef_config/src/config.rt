@@ -1,7 +1,7 @@
 //! The parameters.
 use crate::initial::Initial;
 use crate::parameter::{
-    ACTIONS, CONTROL, DELAY, FILTER, FILTER_COUNT, FIRST_OCTET, NO_PARAMETER, READ_ONLY,
+    ACTIONS, CONTROL, DELAY, FILTER, FILTER_COUNT, FILTERS, FIRST_OCTET, NO_PARAMETER, READ_ONLY,
     SET_IN_PROGRESS,
 };
 use crate::reading::{filter_reply, first_octet_reply, is_parameter, refusal, reply_with};
@@ -32,6 +32,7 @@ impl Config {
         ensures { Holds our_sizes initial.now [] (tables result) }
     {
         let mut filters = Filters::new();
+        // there is always a filter 1
         let _ = filters.set(1, Filter::read(&initial.filter));
         Config {
             set_in_progress: 0,
@@ -48,7 +49,9 @@ impl Config {
         ensures code { result ≡ set_code our_sizes (tables self.old) parameter payload.now }
         ensures written { result ≡ 0x00 → PutsAt (write parameter payload.now) (tables self.old) (tables self.new) }
         ensures kept { result ≢ 0x00 → self.new ≡ self.old }
-        ensures values { (initial : Initial) (writes : List Write) → Holds our_sizes initial writes (tables self.old) → Holds our_sizes initial (with_write result (write parameter payload.now) writes) (tables self.new) }
+        ensures values { (initial : Initial) (writes : List Write)
+            → Holds our_sizes initial writes (tables self.old)
+            → Holds our_sizes initial (with_write result (write parameter payload.now) writes) (tables self.new) }
     {
         match parameter {
             SET_IN_PROGRESS => put_progress(&mut self.set_in_progress, payload),
@@ -79,7 +82,7 @@ impl Config {
             CONTROL => reply_with(&[self.control]),
             ACTIONS => reply_with(&[self.actions]),
             DELAY => reply_with(&[self.delay]),
-            FILTER_COUNT => reply_with(&[16]),
+            FILTER_COUNT => reply_with(&[FILTERS]),
             FILTER => filter_reply(&self.filters, set % 128),
             _ => first_octet_reply(&self.filters, set % 128),
         }

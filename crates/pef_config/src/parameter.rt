@@ -30,5 +30,8 @@ pub(crate) const SELECTOR: u8 = 0xC9;
 /// A field has a value that isn't supported.
 pub(crate) const FIELD: u8 = 0xCC;
 
+/// How many event filters there are.
+pub(crate) const FILTERS: u8 = 16;
+
 /// The revision of the parameters, as it is answered.
 pub(crate) const REVISION: u8 = 0x11;

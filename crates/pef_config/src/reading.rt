@@ -53,7 +53,8 @@ fn entry_reply(selector: u8, value: &[u8]) -> Octets
 
 /// A whole filter.
 pub(crate) fn filter_reply(filters: &Filters, selector: u8) -> Octets
-    ensures { result ≡ answer_if (not (is_number 16 selector)) (0xC9 ∷ []) (0x00 ∷ 0x11 ∷ selector ∷ numbered filters.now selector) }
+    ensures { result ≡ answer_if (not (is_number 16 selector)) (0xC9 ∷ [])
+        (0x00 ∷ 0x11 ∷ selector ∷ numbered filters.now selector) }
 {
     match filters.get(selector) {
         Ok(filter) => entry_reply(selector, &filter.write()),
@@ -63,7 +64,8 @@ pub(crate) fn filter_reply(filters: &Filters, selector: u8) -> Octets
 
 /// The first octet of a filter.
 pub(crate) fn first_octet_reply(filters: &Filters, selector: u8) -> Octets
-    ensures { result ≡ answer_if (not (is_number 16 selector)) (0xC9 ∷ []) (0x00 ∷ 0x11 ∷ selector ∷ take 1 (numbered filters.now selector)) }
+    ensures { result ≡ answer_if (not (is_number 16 selector)) (0xC9 ∷ [])
+        (0x00 ∷ 0x11 ∷ selector ∷ take 1 (numbered filters.now selector)) }
 {
     match filters.get(selector) {
         Ok(filter) => entry_reply(selector, &filter.write()[..1]),

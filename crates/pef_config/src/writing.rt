@@ -23,7 +23,9 @@ pub(crate) fn put_octet(into: &mut u8, payload: &[u8]) -> u8
 
 /// Set in progress: bits 1:0 are 0 or 1, and not 1 where they are 1 already.
 pub(crate) fn put_progress(into: &mut u8, payload: &[u8]) -> u8
-    ensures code { result ≡ answer_if (not (length payload.now == 1)) 0xC7 (answer_if (nat_le 2 (progress (octet 1 payload.now))) 0xCC (answer_if ((progress (octet 1 payload.now) == 1) && (progress into.old == 1)) 0x81 0x00)) }
+    ensures code { result ≡ answer_if (not (length payload.now == 1)) 0xC7 (
+        answer_if (nat_le 2 (progress (octet 1 payload.now))) 0xCC (
+        answer_if ((progress (octet 1 payload.now) == 1) && (progress into.old == 1)) 0x81 0x00)) }
     ensures written { result ≡ 0x00 → into.new ∷ [] ≡ payload.now }
     ensures kept { result ≢ 0x00 → into.new ≡ into.old }
 {
@@ -42,7 +44,8 @@ pub(crate) fn put_progress(into: &mut u8, payload: &[u8]) -> u8
 
 /// A filter: its selector, in bits 6:0, and its 20 octets.
 pub(crate) fn put_filter(filters: &mut Filters, payload: &[u8]) -> u8
-    ensures code { result ≡ answer_if (not (length payload.now == 21)) 0xC7 (answer_if (not (is_number 16 (selector (octet 1 payload.now)))) 0xC9 0x00) }
+    ensures code { result ≡ answer_if (not (length payload.now == 21)) 0xC7 (
+        answer_if (not (is_number 16 (selector (octet 1 payload.now)))) 0xC9 0x00) }
     ensures written { result ≡ 0x00 → Replaces filters.old filters.new (selector (octet 1 payload.now)) (drop 1 payload.now) }
     ensures kept { result ≢ 0x00 → filters.new ≡ filters.old }
 {
@@ -62,8 +65,10 @@ pub(crate) fn put_filter(filters: &mut Filters, payload: &[u8]) -> u8
 
 /// The first octet of a filter: its selector, in bits 6:0, and the octet.
 pub(crate) fn put_first_octet(filters: &mut Filters, payload: &[u8]) -> u8
-    ensures code { result ≡ answer_if (not (length payload.now == 2)) 0xC7 (answer_if (not (is_number 16 (selector (octet 1 payload.now)))) 0xC9 0x00) }
-    ensures written { result ≡ 0x00 → Replaces filters.old filters.new (selector (octet 1 payload.now)) (octet 2 payload.now ∷ drop 1 (numbered filters.old (selector (octet 1 payload.now)))) }
+    ensures code { result ≡ answer_if (not (length payload.now == 2)) 0xC7 (
+        answer_if (not (is_number 16 (selector (octet 1 payload.now)))) 0xC9 0x00) }
+    ensures written { result ≡ 0x00 → let n = selector (octet 1 payload.now) in
+        Replaces filters.old filters.new n (octet 2 payload.now ∷ drop 1 (numbered filters.old n)) }
     ensures kept { result ≢ 0x00 → filters.new ≡ filters.old }
 {
     let [selector, octet] = payload else {
