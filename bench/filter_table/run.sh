@@ -4,8 +4,8 @@
 # Outside the merge gate, which takes no main.rt outside a crate: the program is main.rattle. It proves and builds a copy in a temporary folder, and takes the least processor time of five runs.
 # usage: run.sh [--quick]      --quick takes a tenth of the events
 set -eu
-events=2000000
-[ "${1:-}" = --quick ] && events=200000
+events=20000000
+[ "${1:-}" = --quick ] && events=2000000
 here=$(cd "$(dirname "$0")" && pwd)
 top=$(cd "$here/../.." && pwd)
 work=$(mktemp -d)
