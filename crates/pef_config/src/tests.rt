@@ -22,6 +22,15 @@ fn behind(selector: u8, filter: [u8; 20]) -> [u8; 21] {
     octets
 }
 
+/// A filter as it is read: code, revision and selector in front.
+fn reply(selector: u8, filter: [u8; 20]) -> [u8; 23] {
+    let mut octets = [0x00; 23];
+    octets[1] = 0x11;
+    octets[2] = selector;
+    octets[3..].copy_from_slice(&filter);
+    octets
+}
+
 #[test]
 fn writes_are_checked_in_their_order(rt: HostRuntime) {
     let long = behind(1, FILTER);
@@ -122,26 +131,17 @@ fn parameters_6_and_7_share_the_first_octet(rt: HostRuntime) {
     assert_eq!(rt; config.set(7, &[0x81, 0xC0]), 0x00);
     changed[0] = 0xC0;
     let read = config.get(6, false, 0x01, 0x00);
-    assert_eq!(rt; &read.as_slice()[..2], [0x00, 0x11].as_slice());
-    assert_eq!(rt; &read.as_slice()[2..], behind(1, changed).as_slice());
+    assert_eq!(rt; read.as_slice(), reply(1, changed).as_slice());
     changed[0] = 0x20;
     changed[1] = 0x02;
     assert_eq!(rt; config.set(6, &behind(0x90, changed)), 0x00);
-    assert_eq!(rt;
-        config.get(7, false, 0x10, 0x00).as_slice(),
-        [0x00, 0x11, 0x10, 0x20].as_slice()
-    );
     let read = config.get(6, false, 0x10, 0x00);
-    assert_eq!(rt; &read.as_slice()[2..], behind(0x10, changed).as_slice());
-    // The other filters are as they were.
-    assert_eq!(rt;
-        config.get(7, false, 0x01, 0x00).as_slice(),
-        [0x00, 0x11, 0x01, 0xC0].as_slice()
-    );
-    assert_eq!(rt;
-        config.get(7, false, 0x0F, 0x00).as_slice(),
-        [0x00, 0x11, 0x0F, 0x00].as_slice()
-    );
+    assert_eq!(rt; read.as_slice(), reply(0x10, changed).as_slice());
+    // The first octets, by parameter 7; the other filters are as they were.
+    for (number, octet) in [(0x10, 0x20), (0x01, 0xC0), (0x0F, 0x00), (0x02, 0x00)] {
+        let read = config.get(7, false, number, 0x00);
+        assert_eq!(rt; read.as_slice(), [0x00, 0x11, number, octet].as_slice());
+    }
 }
 
 #[test]

@@ -98,9 +98,10 @@ fn one_act_by_priority_and_the_oem_action(rt: HostRuntime) -> Result<(), Fail> {
         ),
     ];
     for (mask, first, second, act, oem) in rows {
-        let writes = [first, second].map(|(selector, flags, actions)| filter_write(
-            selector, flags, actions,
-        ));
+        let writes = [
+            filter_write(first.0, first.1, first.2),
+            filter_write(second.0, second.1, second.2),
+        ];
         let job = job_of(&config_with(mask, &writes), &event);
         assert_eq!(rt;
             (job.act(), job.oem()),
