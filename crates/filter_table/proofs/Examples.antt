@@ -1,11 +1,13 @@
 -- Worked examples of the definitions: what fits the test of an event data octet, and which event a filter matches.
-use Rattle.std.proofs.Common.{◌≡◌, ℕ, zero, suc, ◌<◌, ◌≤◌, List, [], ◌∷◌, refl, sym, ◌∙◌, ap, inl, inr, arith, lit<}
+use Rattle.std.proofs.Common.{◌≡◌, ℕ, true, false, zero, suc, ◌<◌, ◌≤◌, List, [], ◌∷◌, refl, sym, ◌∙◌, ap, replicate, Some, None, inl, inr, arith, lit<}
 use Rattle.std.specs.Int.{bit_at}
 use Rattle.std.specs.Int.Bits.{and_zero_r}
 use Rattle.std.proofs.lemmas.Nat.Bits.{bit_at-zero}
 use Rattle.event_record.specs.Fields.{octet, record_type}
 use Rattle.filter_table.specs.declared.data_test.DataTest.{DataTest}
 use Rattle.filter_table.specs.Matching.{Fits, HasOffset, Matches}
+use Rattle.filter_table.specs.BitTest.{fits, is_match}
+use Rattle.filter_table.specs.Filters.{numbered, no_filters, number_fault}
 
 abbrev test_of : ℕ → ℕ → ℕ → DataTest
 test_of mask compare_1 compare_2 = record { mask = mask; compare_1 = compare_1; compare_2 = compare_2 }
@@ -105,3 +107,23 @@ oem_records_match_none filter event oem matched = let kind = matched.system_even
 
 pub disabled_matches_none : (filter event : List ℕ) → bit_at (octet 1 filter) 7 ≡ 0 → ¬ Matches filter event
 disabled_matches_none filter event off matched = let on = matched.enabled in omega arith
+
+-- the same rows by the test with a Boolean answer
+fit : (fits (test_of 0x00 0x00 0x00) 0xFF ≡ true) × (fits (test_of 0xFF 0xFF 0x52) 0x52 ≡ true)
+    × (fits (test_of 0x30 0xCF 0x10) 0x00 ≡ true) × (fits (test_of 0x30 0xCF 0x10) 0x30 ≡ true)
+unfolding fits
+fit = (refl, refl, refl, refl)
+
+misfit : (fits (test_of 0xFF 0xFF 0x52) 0x53 ≡ false) × (fits (test_of 0x00 0xFF 0xFF) 0xFF ≡ false) × (fits (test_of 0x30 0xCF 0x10) 0x20 ≡ false)
+unfolding fits
+misfit = (refl, refl, refl)
+
+matched : (is_match (filter_of 0x04 0x00) (event_of 0x01 0x52) ≡ true) × (is_match (filter_of 0x04 0x00) (event_of 0x01 0x53) ≡ false)
+    × (is_match (filter_of 0x04 0x00) (event_of 0x81 0x52) ≡ false) × (is_match (filter_of 0x00 0x80) (event_of 0x01 0x5F) ≡ true)
+unfolding fits is_match
+matched = (refl, refl, refl, refl)
+
+-- of sixteen filters numbers 1 and 16 are there, and 0 and 17 aren't
+numbers : (number_fault 16 1 ≡ None) × (number_fault 16 16 ≡ None) × (number_fault 16 0 ≡ Some (record { 0 = 0 })) × (number_fault 16 17 ≡ Some (record { 0 = 17 }))
+    × (numbered (no_filters 16) 16 ≡ replicate 20 0) × (numbered (no_filters 16) 17 ≡ []) × (numbered (no_filters 16) 0 ≡ [])
+numbers = (refl, refl, refl, refl, refl, refl, refl)

@@ -1,3 +1,4 @@
 pub mod Bits
 pub mod WrongBits
+pub mod Decided
 pub mod Examples

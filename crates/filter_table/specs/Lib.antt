@@ -1,2 +1,4 @@
 pub mod Entry
 pub mod Matching
+pub mod BitTest
+pub mod Filters

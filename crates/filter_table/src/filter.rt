@@ -1,5 +1,5 @@
 //! An event filter.
-ghost use Rattle.std.specs.Prelude.{◌≡◌, ◌+◌, ◌≤◌, ◌↔◌, IsTrue};
+ghost use Rattle.std.specs.Prelude.{◌≡◌, ◌+◌, ◌≤◌, ◌↔◌, ◌∷◌, drop, IsTrue};
 ghost use Rattle.filter_table.specs.Entry.{IsEnabled, actions, policy_number, severity, wanted_generator, wanted_sensor_type, wanted_sensor, wanted_trigger, offset_mask, data_test_at, data_tests};
 
 use crate::data_test::DataTest;
@@ -101,6 +101,15 @@ impl Filter {
         ensures { result ≡ offset_mask self.now }
     {
         LittleEndian::read_u16(&self.octets[9..])
+    }
+
+    /// The same filter with another first octet.
+    pub(crate) fn with_first(self, octet: u8) -> Filter
+        ensures { result ≡ octet ∷ drop 1 self }
+    {
+        let mut octets = self.octets;
+        octets[0] = octet;
+        Filter { octets }
     }
 
     /// The tests of event data 1 to 3.

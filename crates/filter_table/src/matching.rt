@@ -1,5 +1,6 @@
 //! Which events a filter matches.
-ghost use Rattle.std.specs.Prelude.{◌↔◌, IsTrue};
+ghost use Rattle.std.specs.Prelude.{◌≡◌, ◌↔◌, IsTrue};
+ghost use Rattle.filter_table.specs.BitTest.{is_match};
 ghost use Rattle.filter_table.specs.Matching.{Takes, TakesSource, HasOffset, FitsData, Matches};
 
 use crate::filter::Filter;
@@ -12,7 +13,8 @@ const ANY: u8 = 0xFF;
 
 /// Whether the filter matches the event, by IPMI 2.0, section 17.7. No filter matches an OEM record.
 pub fn matches(filter: &Filter, event: &Record) -> bool
-    ensures { IsTrue result ↔ Matches filter.now event.now }
+    ensures value { result ≡ is_match filter.now event.now }
+    ensures meaning { IsTrue result ↔ Matches filter.now event.now }
 {
     if !filter.is_enabled() || event.kind() != SYSTEM_EVENT {
         return false;

@@ -5,14 +5,14 @@ use Rattle.board_core.specs.declared.step.Act.TheVariants.{DiagInt}
 use Rattle.board_core.specs.declared.step.Told.TheVariants.{Done, Failed}
 use Rattle.event_record.specs.declared.fault.RecordFault.TheVariants.{ReservedId}
 use Rattle.event_record.specs.declared.fault.LogFault.TheVariants.{Duplicate}
-use Rattle.filter_table.specs.declared.data_test.DataTest.{DataTest}
 use Rattle.pef_engine.specs.declared.entry.Entry.{Entry}
 use Rattle.pef_engine.specs.declared.entry.Entry.TheVariants.{Item as Taken, Outcome}
 use Rattle.pef_engine.specs.CrashFree.{crash_free_run}
 use Rattle.pef_core.specs.declared.item.Item.{Item}
 use Rattle.pef_core.specs.declared.item.Item.TheVariants.{Event, Open, Close}
 use Rattle.pef_core.specs.declared.note.Note.TheVariants.{Added, Refused, NotAdded, Nothing}
-use Rattle.pef_core.specs.Asking.{fits, is_match, asks_by, asks}
+use Rattle.filter_table.specs.BitTest.{fits, is_match}
+use Rattle.pef_core.specs.Asking.{asks_by, asks}
 use Rattle.pef_core.specs.History.{log_of, note_after, script_of}
 use Rattle.pef_core.specs.Histories.{pending, encode, controller_rules}
 
@@ -50,19 +50,6 @@ asks_at_its_offset = refl
 asks_for_nothing : (asks settings (fan_with 0x01 0x02 0x53) ≡ false) × (asks settings (fan_with 0x01 0xC0 0x52) ≡ false) × (asks (front ++ filter_with 0x1F) fan ≡ false)
 unfolding fits is_match asks_by
 asks_for_nothing = (refl, refl, refl)
-
-abbrev test_of : ℕ → ℕ → ℕ → DataTest
-test_of mask compare_1 compare_2 = record { mask = mask; compare_1 = compare_1; compare_2 = compare_2 }
-
--- 00 00 00 takes every value, FF FF 52 takes 52h alone, 00 FF FF nothing; 30 CF 10 what has bit 4 set or bit 5 clear
-fit : (fits (test_of 0x00 0x00 0x00) 0xFF ≡ true) × (fits (test_of 0xFF 0xFF 0x52) 0x52 ≡ true)
-    × (fits (test_of 0x30 0xCF 0x10) 0x00 ≡ true) × (fits (test_of 0x30 0xCF 0x10) 0x30 ≡ true)
-unfolding fits
-fit = (refl, refl, refl, refl)
-
-misfit : (fits (test_of 0xFF 0xFF 0x52) 0x53 ≡ false) × (fits (test_of 0x00 0xFF 0xFF) 0xFF ≡ false) × (fits (test_of 0x30 0xCF 0x10) 0x20 ≡ false)
-unfolding fits
-misfit = (refl, refl, refl)
 
 -- a script of two items: an event that asks, and behind its outcome one that doesn't
 abbrev opened : List (Entry Item)

@@ -1,5 +1,4 @@
 pub mod Examples
-pub mod Matching
 pub mod Places
 pub mod Behind
 pub mod OpenedLast

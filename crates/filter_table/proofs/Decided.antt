@@ -1,4 +1,4 @@
--- The test of a match by single bits is the relation of the filters.
+-- The test of a match by single bits says what the conditions say.
 use Rattle.std.proofs.Common.{◌≡◌, ◌⊎◌, ℕ, ◌<◌, List, ◌&&◌, ◌||◌, eqb, refl, inl, inr, arith, Decides}
 use Rattle.std.specs.Int.{bit_at}
 use Rattle.std.proofs.lemmas.Nat.Bits.{bit_at-lt}
@@ -6,9 +6,9 @@ use Rattle.std.proofs.lemmas.Bool.{cases_eq}
 use Rattle.std.proofs.lemmas.Bool.Decides.{Decides-eqb, Decides-and, Decides-or, Decides-like, Decides-below_and, Decides-below_or}
 use Rattle.event_record.specs.Fields.{octet, record_type, sensor_type, sensor_number, event_trigger, event_offset}
 use Rattle.filter_table.specs.declared.data_test.DataTest.{DataTest}
-use Rattle.filter_table.specs.Entry.{actions, offset_mask, data_test_at}
+use Rattle.filter_table.specs.Entry.{offset_mask, data_test_at}
 use Rattle.filter_table.specs.Matching.{Takes, IsSameAt, Fits, Matches}
-use Rattle.pef_core.specs.Asking.{all_below, any_below, takes, is_same_at, fits, is_match, asks_by}
+use Rattle.filter_table.specs.BitTest.{all_below, any_below, takes, is_same_at, fits, is_match}
 
 takes_decides : (wanted value : ℕ) → Decides (takes wanted value) (Takes wanted value)
 takes_decides wanted value = Decides-or (eqb wanted 255) (eqb wanted value) (Decides-eqb wanted 255) (Decides-eqb wanted value)
@@ -88,7 +88,3 @@ match_decides filter event =
     })
     (λ m. ((((((((((m.enabled, m.system_event), m.source.generator_1), m.source.generator_2), m.source.type_of_sensor), m.source.number_of_sensor), m.source.trigger), m.offset), m.event_data.first), m.event_data.second), m.event_data.third))
     (Decides-and _ _ (Decides-and _ _ (Decides-and _ _ (Decides-and _ _ (Decides-and _ _ (Decides-and _ _ (Decides-and _ _ (Decides-and _ _ (Decides-and _ _ (Decides-and _ _ enabled kind) generator_1) generator_2) sensor) number) trigger) offset) first) second) third)
-
-pub asks_decides : (filter event : List ℕ) → Decides (asks_by filter event) (Matches filter event × (bit_at (actions filter) 5 ≡ 1))
-unfolding asks_by
-asks_decides filter event = Decides-and _ _ (match_decides filter event) (Decides-eqb _ _)

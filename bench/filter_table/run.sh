@@ -1,0 +1,41 @@
+#!/usr/bin/env bash
+# Filters a second of `matches` on one core, beside a plain C loop (gcc -O2) with the same conditions, over a table of sixteen filters: the usual
+# case, where the sensor type decides, and the worst, where the last test of event data decides.
+# Outside the merge gate, which takes no main.rt outside a crate: the program is main.rattle. It proves and builds a copy in a temporary folder, and takes the least processor time of five runs.
+# usage: run.sh [--quick]      --quick takes a tenth of the events
+set -eu
+events=20000000
+[ "${1:-}" = --quick ] && events=2000000
+here=$(cd "$(dirname "$0")" && pwd)
+top=$(cd "$here/../.." && pwd)
+work=$(mktemp -d)
+trap 'rm -rf "$work"' EXIT
+
+git init -q "$work"
+mkdir -p "$work/crates/bench_filters/src"
+cp "$top/HANDLES" "$work/"
+for crate in event_record filter_table; do
+    mkdir "$work/crates/$crate"
+    for part in src specs proofs; do cp -r "$top/crates/$crate/$part" "$work/crates/$crate/"; done
+done
+cp "$here/main.rattle" "$work/crates/bench_filters/src/main.rt"
+grep -E '^(event_record|filter_table):' "$top/crates.txt" > "$work/crates.txt"
+echo 'bench_filters: anyhow event_record filter_table' >> "$work/crates.txt"
+(cd "$work/crates/bench_filters" && rt run -- usual 1 > "$work/log" 2>&1) || { cat "$work/log"; exit 1; }
+gcc -O2 -o "$work/matcher" "$here/matcher.c"
+
+TIMEFORMAT=%U
+# least CASE OUT COMMAND: the least of five processor times
+least() {
+    for _ in 1 2 3 4 5; do
+        { time "$3" "$1" "$events" > "$2"; } 2>&1
+    done | sort -n | head -1
+}
+for case in usual worst; do
+    rattle=$(least "$case" "$work/rattle.sum" "$work/crates/bench_filters/out/bench_filters")
+    c=$(least "$case" "$work/c.sum" "$work/matcher")
+    cmp "$work/rattle.sum" "$work/c.sum"
+    awk -v k="$case" -v n="$((events * 16))" -v r="$rattle" -v c="$c" 'BEGIN {
+        printf "%s: matches %.1f, C loop %.1f million filters a second (%s s, %s s), ratio %.2f\n", k, n / r / 1e6, n / c / 1e6, r, c, c / r
+    }'
+done

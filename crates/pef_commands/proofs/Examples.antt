@@ -1,0 +1,29 @@
+-- Worked examples of the definitions: requests, and the commands that they are.
+use Rattle.std.proofs.Common.{◌≡◌, ℕ, true, false, List, [], ◌∷◌, Some, None, Ok, Err, refl, replicate}
+use Rattle.pef_commands.specs.declared.command.Command.TheVariants.{SetPef, GetPef, SetLan, GetLan}
+use Rattle.pef_commands.specs.Request.{Asked, request_of}
+use Rattle.pef_commands.specs.Parsing.{parsed}
+
+abbrev asked : ℕ → ℕ → List ℕ → Asked
+asked netfn cmd payload = record { netfn = netfn; cmd = cmd; payload = payload }
+
+pub commands :
+    (parsed (asked 0x04 0x12 (0x05 ∷ 0x10 ∷ [])) ≡ Ok (SetPef 0x05 (0x10 ∷ [])))
+    × (parsed (asked 0x04 0x13 (0x86 ∷ 0x81 ∷ 0x02 ∷ [])) ≡ Ok (GetPef 0x06 true 0x01 0x02))
+    × (parsed (asked 0x0C 0x01 (0xF2 ∷ 0x12 ∷ 0x01 ∷ [])) ≡ Ok (SetLan 0x02 0x12 (0x01 ∷ [])))
+    × (parsed (asked 0x0C 0x02 (0x01 ∷ 0x13 ∷ 0xF4 ∷ 0x00 ∷ [])) ≡ Ok (GetLan 0x01 0x13 false 0x04))
+commands = (refl, refl, refl, refl)
+
+pub refusals :
+    (parsed (asked 0x04 0x12 []) ≡ Err 0xC7)
+    × (parsed (asked 0x04 0x13 (0x05 ∷ 0x00 ∷ [])) ≡ Err 0xC7)
+    × (parsed (asked 0x0C 0x01 (0x01 ∷ [])) ≡ Err 0xC7)
+    × (parsed (asked 0x0C 0x02 (0x01 ∷ 0x13 ∷ 0x04 ∷ [])) ≡ Err 0xC7)
+    × (parsed (asked 0x04 0x99 []) ≡ Err 0xC1)
+    × (parsed (asked 0x0C 0x12 (0x05 ∷ [])) ≡ Err 0xC1)
+refusals = (refl, refl, refl, refl, refl, refl)
+
+pub requests :
+    (request_of 0x3F 0xFF [] ≡ Some (asked 0x3F 0xFF [])) × (request_of 0x40 0x00 [] ≡ None)
+    × (request_of 0x04 0x12 (replicate 64 0) ≡ Some (asked 0x04 0x12 (replicate 64 0))) × (request_of 0x04 0x12 (replicate 65 0) ≡ None)
+requests = (refl, refl, refl, refl)

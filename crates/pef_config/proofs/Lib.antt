@@ -1,0 +1,3 @@
+pub mod Numbered
+pub mod InitialFilters
+pub mod Examples

@@ -1,0 +1,54 @@
+-- Worked examples of the definitions: what a fan's event asks for under filters on its sensor type and its offset.
+use Rattle.std.proofs.Common.{◌≡◌, ℕ, true, false, Bool, cond, eqb, List, [], ◌∷◌, replicate, take, drop, Option, Some, None, refl}
+use Rattle.board_core.specs.declared.step.Act.{Act}
+use Rattle.board_core.specs.declared.step.Act.TheVariants.{PowerDown, PowerCycle, Reset, DiagInt}
+use Rattle.filter_table.specs.BitTest.{fits, is_match}
+use Rattle.pef_config.specs.Places.{Tables, SetInProgress, Control, Actions, Delay, FirstOctet, OtherOctets, our_sizes}
+use Rattle.pef_match.specs.Parts.{Parts}
+use Rattle.pef_match.specs.Job.{filters_in, job}
+
+-- a filter on sensor type 04h and offset 2, with this first octet and these actions
+abbrev filter_with : ℕ → ℕ → List ℕ
+filter_with flags actions =
+    flags ∷ actions ∷ 0x01 ∷ 0x10 ∷ 0xFF ∷ 0xFF ∷ 0x04 ∷ 0xFF ∷ 0x01 ∷ 0x04 ∷ 0x00
+    ∷ 0x00 ∷ 0x00 ∷ 0x00 ∷ 0x00 ∷ 0x00 ∷ 0x00 ∷ 0x00 ∷ 0x00 ∷ 0x00 ∷ []
+
+-- filter 1 and filter 16; the others are zeros
+abbrev filters : List ℕ → List ℕ → ℕ → List ℕ
+filters first last n = cond (eqb n 1) first (cond (eqb n 16) last (replicate 20 0))
+
+abbrev tables : ℕ → (ℕ → List ℕ) → Tables
+tables mask filter SetInProgress = 0x00 ∷ []
+tables mask filter Control = 0x01 ∷ []
+tables mask filter Actions = mask ∷ []
+tables mask filter Delay = 0x00 ∷ []
+tables mask filter (FirstOctet n) = take 1 (filter n)
+tables mask filter (OtherOctets n) = drop 1 (filter n)
+
+-- a fan's event of this type
+abbrev event_of : ℕ → List ℕ
+event_of kind = 0x01 ∷ 0x00 ∷ kind ∷ 0x00 ∷ 0xCA ∷ 0x9A ∷ 0x3B ∷ 0x20 ∷ 0x00 ∷ 0x04 ∷ 0x04 ∷ 0x30 ∷ 0x01 ∷ 0x52 ∷ 0x10 ∷ 0x20 ∷ []
+
+abbrev asks_for : Option Act → Bool → ℕ → Parts
+asks_for act oem kind = record { act = act; targets = []; oem = oem; event = event_of kind }
+
+-- all actions under the mask 3Dh: power cycle, and the OEM action beside it
+pub one_filter : job our_sizes (tables 0x3D (filters (filter_with 0x80 0x3F) (replicate 20 0))) (event_of 0x02) ≡ asks_for (Some PowerCycle) true 0x02
+unfolding fits is_match filters_in
+one_filter = refl
+
+-- of two acts the first by priority, whichever filter asks for it
+pub two_filters :
+    (job our_sizes (tables 0x3F (filters (filter_with 0x80 0x20) (filter_with 0x80 0x04))) (event_of 0x02) ≡ asks_for (Some Reset) false 0x02)
+    × (job our_sizes (tables 0x3F (filters (filter_with 0x80 0x04) (filter_with 0x80 0x02))) (event_of 0x02) ≡ asks_for (Some PowerDown) false 0x02)
+unfolding fits is_match filters_in
+two_filters = (refl, refl)
+
+-- a disabled filter, an OEM record, the alert bit alone, and a mask of zeros
+pub nothing :
+    (job our_sizes (tables 0x3F (filters (filter_with 0x00 0x3F) (replicate 20 0))) (event_of 0x02) ≡ asks_for None false 0x02)
+    × (job our_sizes (tables 0x3F (filters (filter_with 0x80 0x3F) (replicate 20 0))) (event_of 0xC0) ≡ asks_for None false 0xC0)
+    × (job our_sizes (tables 0x3F (filters (filter_with 0x80 0x01) (replicate 20 0))) (event_of 0x02) ≡ asks_for None false 0x02)
+    × (job our_sizes (tables 0x00 (filters (filter_with 0x80 0x3F) (replicate 20 0))) (event_of 0x02) ≡ asks_for None false 0x02)
+unfolding fits is_match filters_in
+nothing = (refl, refl, refl, refl)

@@ -1,0 +1,79 @@
+//! What is to be done for one event record.
+ghost use Rattle.std.specs.Prelude.{◌≡◌, ◌≤◌, length};
+
+use crate::target::Target;
+use arrayvec::ArrayVec;
+use board_core::Act;
+use event_record::Record;
+use std::marker::Model;
+
+/// How many alerts a job has at most.
+const TARGETS: usize = 16;
+
+/// What is to be done for one event record: at most one act, then at most 16 alerts, then the OEM action.
+#[derive(Drop)]
+pub struct Job {
+    act: Option<Act>,
+    targets: ArrayVec<Target, TARGETS>,
+    oem: bool,
+    event: Record,
+}
+
+impl Model for Job {
+    ghost use Rattle.std.specs.Prelude.{◌≤◌, length};
+    ghost use Rattle.pef_match.specs.Parts.{Parts};
+
+    ghost Value = { Parts };
+
+    ghost view = { λ j. record { act = j.act; targets = j.targets.items; oem = j.oem; event = j.event } };
+
+    ghost invariant = { λ j. length j.targets.items ≤ 16 };
+}
+
+impl Job {
+    /// The job with these parts. There are at most 16 alerts.
+    pub fn new(act: Option<Act>, targets: &[Target], oem: bool, event: &Record) -> Job
+        requires { length targets.now ≤ 16 }
+        ensures { result ≡ record { act = act; targets = targets.now; oem = oem; event = event.now } }
+    {
+        let mut held = ArrayVec::new();
+        for target in targets {
+            held.push(target.copy());
+        }
+        Job {
+            act,
+            targets: held,
+            oem,
+            event: *event,
+        }
+    }
+
+    /// The act, where there is one.
+    pub fn act(&self) -> Option<Act>
+        ensures { result ≡ self.now.act }
+    {
+        self.act
+    }
+
+    /// The alerts, by policy number and then by entry.
+    pub fn targets(&self) -> &[Target]
+        ensures value { result.now ≡ self.now.targets }
+        ensures within { length result.now ≤ 16 }
+    {
+        self.targets.as_slice()
+    }
+
+    /// Whether the OEM action is to be done, last.
+    pub fn oem(&self) -> bool
+        ensures { result ≡ self.now.oem }
+    {
+        self.oem
+    }
+
+    /// The record that the job is of.
+    pub fn event(&self) -> &Record
+        ensures { result.now ≡ self.now.event }
+    {
+        &self.event
+    }
+}
