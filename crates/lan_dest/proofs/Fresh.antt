@@ -1,5 +1,5 @@
 -- What fresh arrays hold.
-use Rattle.std.proofs.Common.{◌≡◌, ℕ, ◌+◌, ◌-◌, ◌<◌, ◌≤◌, Bool, true, false, cond, eqb, List, [], get_or, replicate, refl, sym, ap, ◌∙◌, arith, inl, inr, eqb-true}
+use Rattle.std.proofs.Common.{◌≡◌, ℕ, ◌-◌, ◌<◌, ◌≤◌, Bool, true, false, cond, eqb, [], replicate, refl, sym, ◌∙◌, arith, inl, inr, eqb-true}
 use Rattle.std.specs.Prelude.{codes, ◌&&◌, ◌||◌}
 use Rattle.std.proofs.lemmas.Bool.{leb-true, and_parts, or_cases, true≢false}
 use Rattle.std.proofs.lemmas.List.{get_or-replicate}

@@ -2,7 +2,7 @@
 -- of the one channel and five of the other.
 use Rattle.std.specs.Prelude.{ℕ, ◌+◌, ◌-◌, ◌*◌, ◌==◌, if◌then◌else◌, List, []}
 use Rattle.std.specs.List.{slice_index_or}
-use Rattle.lan_dest.specs.Parameters.{Place, Tables, is_place}
+use Rattle.lan_dest.specs.Parameters.{Tables, is_place}
 
 abbrev pub index_of : ℕ → ℕ → ℕ
 index_of channel selector = 5 * (channel - 1) + selector

@@ -1,7 +1,7 @@
 -- When an alert is sent, and how it ends: LAN parameter 18 of IPMI 2.0, section 23.2, table 23-4. This project's readings are that a
 -- failed transmission counts as one of those that may be made, and that an unacknowledged alert succeeds where one of its
 -- transmissions went without error.
-use Rattle.std.specs.Prelude.{◌≡◌, ℕ, ◌+◌, ◌*◌, ◌/◌, ◌<◌, ◌≤◌, min, Bool, true, false, ◌||◌, ◌==◌, nat_le, if◌then◌else◌, Option, Some, None}
+use Rattle.std.specs.Prelude.{◌≡◌, ℕ, ◌+◌, ◌*◌, ◌/◌, ◌<◌, min, Bool, true, false, ◌||◌, ◌==◌, nat_le, if◌then◌else◌, Option, Some, None}
 use Rattle.board_core.specs.declared.step.Told.{Told}
 use Rattle.board_core.specs.declared.step.Told.TheVariants.{Done, Failed}
 

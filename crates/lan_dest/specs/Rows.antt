@@ -1,6 +1,6 @@
 -- What Set and Get LAN Configuration Parameters answer: IPMI 2.0, sections 23.1 and 23.2. Which codes come, and in which order they are
 -- looked for, is this project's choice.
-use Rattle.std.specs.Prelude.{ℕ, ◌+◌, Bool, not, ◌==◌, ◌&&◌, ◌||◌, nat_le, if◌then◌else◌, List, [], ◌∷◌, length}
+use Rattle.std.specs.Prelude.{ℕ, ◌+◌, Bool, not, ◌==◌, ◌&&◌, nat_le, if◌then◌else◌, List, [], ◌∷◌, length}
 use Rattle.lan_dest.specs.Octets.{octet, bits}
 use Rattle.lan_dest.specs.Parameters.{Tables, at, is_channel, has_selector, is_selector, width}
 

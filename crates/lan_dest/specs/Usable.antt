@@ -1,8 +1,7 @@
 -- Which destinations an alert can be sent to: IPMI 2.0, section 23.2, table 23-4. That it is one of an own port of this project for each
 -- destination type, and that the address 0.0.0.0 is none, are this project's choices.
-use Rattle.std.specs.Prelude.{ℕ, ◌+◌, Bool, not, ◌==◌, ◌&&◌, ◌||◌, if◌then◌else◌, List, [], ◌∷◌, take, drop, Option, Some, None}
+use Rattle.std.specs.Prelude.{ℕ, ◌+◌, Bool, not, ◌==◌, ◌&&◌, ◌||◌, if◌then◌else◌, List, take, drop, Option, Some, None}
 use Rattle.std.specs.List.{before_first, list_all}
-use Rattle.board_core.specs.declared.step.Address.{Address}
 use Rattle.lan_dest.specs.declared.destination.Destination.{Destination}
 use Rattle.lan_dest.specs.declared.destination.Ports.{Ports}
 use Rattle.lan_dest.specs.Octets.{octet, bits}

@@ -1,5 +1,5 @@
 -- The definitions on worked sets.
-use Rattle.std.proofs.Common.{◌≡◌, ℕ, Bool, true, false, List, [], ◌∷◌, map, Some, None, refl}
+use Rattle.std.proofs.Common.{◌≡◌, ℕ, true, false, List, [], ◌∷◌, map, Some, None, refl}
 use Rattle.policy_walk.specs.declared.stop.Stop.{Stop}
 use Rattle.policy_walk.specs.Stops.{stop_of}
 use Rattle.policy_walk.specs.Tried.{tried, place_after}

@@ -4,7 +4,7 @@ use Rattle.std.proofs.Common.{◌≡◌, ℕ, suc, zero, ◌+◌, ◌<◌, Bool,
 use Rattle.std.specs.Prelude.{slice_get}
 use Rattle.std.proofs.lemmas.List.{length-replicate}
 use Rattle.policy_walk.specs.declared.stop.Stop.{Stop}
-use Rattle.policy_walk.specs.Tried.{Any, tried_on, tried_from, tried, place_after}
+use Rattle.policy_walk.specs.Tried.{Any, tried_from, tried, place_after}
 
 always : (zero_policy : Bool) (xs ys : List ℕ) → cond (zero_policy || true) xs ys ≡ xs
 always true xs ys = refl

@@ -1,7 +1,7 @@
 -- Which stops of a policy set an alert is attempted at: the policies of IPMI 2.0, section 17.11. This project's readings are that the
 -- alert before is the last one attempted in this set, that another channel or destination type is another one than that of the stop
 -- that isn't attempted, and that the stop reached so is judged by its own policy.
-use Rattle.std.specs.Prelude.{ℕ, ◌+◌, Bool, true, false, not, ◌&&◌, ◌||◌, ◌==◌, if◌then◌else◌, List, [], ◌∷◌, length, slice_get, Option, Some, None}
+use Rattle.std.specs.Prelude.{ℕ, ◌+◌, Bool, true, false, not, ◌&&◌, ◌||◌, ◌==◌, if◌then◌else◌, List, [], ◌∷◌, length, slice_get, Option}
 use Rattle.policy_walk.specs.declared.stop.Stop.{Stop}
 
 -- what the next stop has to be: any, on another channel than this, of another type than this, or there is none

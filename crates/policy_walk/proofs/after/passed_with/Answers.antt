@@ -1,5 +1,4 @@
-use Rattle.std.proofs.Common.{◌≡◌, ℕ, ◌+◌, nat_eq, true, length, drop, ap, ◌∙◌, sym, refl, arith}
-use Rattle.std.specs.List.{prefix_len}
+use Rattle.std.proofs.Common.{◌+◌, nat_eq, true, length, drop, ap, ◌∙◌, sym, refl, arith}
 use Rattle.std.proofs.lemmas.List.{at_drop_all}
 use Rattle.std.proofs.lemmas.List.Sums.{prefix_len-le-length}
 use Rattle.policy_walk.specs.declared.stop.Stop.{Stop}

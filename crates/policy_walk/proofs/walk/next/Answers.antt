@@ -1,4 +1,4 @@
-use Rattle.std.proofs.Common.{◌≡◌, ℕ, ◌+◌, ◌<◌, false, drop, length, Some, sym, ap, ◌∙◌, arith, length-drop}
+use Rattle.std.proofs.Common.{◌+◌, false, drop, Some, sym, ap, ◌∙◌, arith, length-drop}
 use Rattle.policy_walk.proofs.Passing.{first_after_failure}
 use Rattle.policy_walk.specs.Tried.{Any}
 use Rattle.policy_walk.specs.First.{first_tried}

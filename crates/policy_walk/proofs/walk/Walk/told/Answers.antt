@@ -1,4 +1,4 @@
-use Rattle.std.proofs.Common.{◌≡◌, ℕ, ◌+◌, drop, Some, sym, ap, ◌∙◌}
+use Rattle.std.proofs.Common.{◌≡◌, ◌+◌, drop, Some, sym, ap, ◌∙◌}
 use Rattle.policy_walk.proofs.Growing.{place_after-more}
 use Rattle.policy_walk.specs.Place.{Standing}
 use Rattle.policy_walk.specs.Tried.{Any, place_after}
