@@ -1,0 +1,85 @@
+//! Set LAN Configuration Parameters.
+ghost use Rattle.std.specs.Prelude.{◌≡◌, ◌≢◌, true};
+ghost use Rattle.lan_dest.specs.Kept.{kept};
+ghost use Rattle.lan_dest.specs.Parameters.{Write, is_channel, written};
+ghost use Rattle.lan_dest.specs.Rows.{set_code};
+
+use crate::code::{DONE, INVALID_FIELD, LENGTH, NOT_SUPPORTED, OUT_OF_RANGE, READ_ONLY};
+use crate::lan::{DESTINATIONS, Lan, is_channel};
+
+impl Lan {
+    /// Writes a parameter of a channel, with the octets behind its number, and answers the completion code. Another code
+    /// than 00h changes nothing.
+    pub fn set(&mut self, channel: u8, parameter: u8, payload: &[u8]) -> u8
+        ensures code { result ≡ set_code channel parameter payload.now }
+        ensures accepted { result ≡ 0 → kept self.new ≡ written (record { channel = channel; parameter = parameter; payload = payload.now }) (kept self.old) }
+        ensures refused { result ≢ 0 → self.new ≡ self.old }
+    {
+        if !is_channel(channel) {
+            return INVALID_FIELD;
+        }
+        match parameter {
+            16 => self.set_community(channel, payload),
+            17 => READ_ONLY,
+            18 => self.set_kind(channel, payload),
+            19 => self.set_address(channel, payload),
+            _ => NOT_SUPPORTED,
+        }
+    }
+
+    fn set_community(&mut self, channel: u8, payload: &[u8]) -> u8
+        requires { is_channel channel ≡ true }
+        ensures code { result ≡ set_code channel 16 payload.now }
+        ensures accepted { result ≡ 0 → kept self.new ≡ written (record { channel = channel; parameter = 16; payload = payload.now }) (kept self.old) }
+        ensures refused { result ≢ 0 → self.new ≡ self.old }
+    {
+        if payload.len() != 18 {
+            return LENGTH;
+        }
+        let mut octets = [0; 18];
+        octets.copy_from_slice(payload);
+        self.put_community(channel, octets);
+        DONE
+    }
+
+    fn set_kind(&mut self, channel: u8, payload: &[u8]) -> u8
+        requires { is_channel channel ≡ true }
+        ensures code { result ≡ set_code channel 18 payload.now }
+        ensures accepted { result ≡ 0 → kept self.new ≡ written (record { channel = channel; parameter = 18; payload = payload.now }) (kept self.old) }
+        ensures refused { result ≢ 0 → self.new ≡ self.old }
+    {
+        if payload.len() != 4 {
+            return LENGTH;
+        }
+        let number = payload[0] % 16;
+        if number >= DESTINATIONS {
+            return OUT_OF_RANGE;
+        }
+        let mut octets = [0; 3];
+        octets.copy_from_slice(&payload[1..]);
+        self.put_kind(channel, number, octets);
+        DONE
+    }
+
+    fn set_address(&mut self, channel: u8, payload: &[u8]) -> u8
+        requires { is_channel channel ≡ true }
+        ensures code { result ≡ set_code channel 19 payload.now }
+        ensures accepted { result ≡ 0 → kept self.new ≡ written (record { channel = channel; parameter = 19; payload = payload.now }) (kept self.old) }
+        ensures refused { result ≢ 0 → self.new ≡ self.old }
+    {
+        if payload.len() != 13 {
+            return LENGTH;
+        }
+        let number = payload[0] % 16;
+        if number >= DESTINATIONS {
+            return OUT_OF_RANGE;
+        }
+        if payload[1] / 16 != 0 {
+            return INVALID_FIELD;
+        }
+        let mut octets = [0; 12];
+        octets.copy_from_slice(&payload[1..]);
+        self.put_address(channel, number, octets);
+        DONE
+    }
+}

@@ -1,0 +1,4 @@
+pub mod Passing
+pub mod Growing
+pub mod Reached
+pub mod Examples

@@ -1,0 +1,5 @@
+pub mod Stops
+pub mod Tried
+pub mod First
+pub mod Place
+pub mod Standing

@@ -1,0 +1,12 @@
+//! The walk over the stops of a policy set: which destination is next in the light of how the last alert ended.
+#![tactic(auto)]
+
+mod after;
+mod stop;
+mod walk;
+
+pub use stop::Stop;
+pub use walk::{STOPS, Walk};
+
+#[cfg(test)]
+mod tests;
