@@ -1,7 +1,8 @@
 // A stream as a sink.
 ghost use Rattle.std.specs.Prelude.{◌≡◌, None};
 
-use crate::faults::counted;
+use crate::failure::{Call, Failure};
+use crate::faults::{Faults, counted};
 use board_core::{Sink, SinkFailed};
 use std::io::Write;
 
@@ -9,7 +10,7 @@ use std::io::Write;
 #[derive(Drop)]
 pub struct StdSink<W> {
     stream: W,
-    faults: u64,
+    faults: Faults,
 }
 
 impl<W: Write + Drop> StdSink<W> {
@@ -19,7 +20,15 @@ impl<W: Write + Drop> StdSink<W> {
     pub fn new(stream: W) -> StdSink<W>
         ensures { sink_faults result ≡ 0 }
     {
-        StdSink { stream, faults: 0 }
+        StdSink {
+            stream,
+            faults: Faults::new(),
+        }
+    }
+
+    /// The first write that failed.
+    pub fn failure(&self) -> Option<Failure> {
+        self.faults.first
     }
 }
 
@@ -31,7 +40,12 @@ impl<W: Write + Drop> Sink for StdSink<W> {
     ghost faults = { sink_faults };
 
     fn write(&mut self, from: &[u8]) -> Result<(), SinkFailed> {
-        counted(self.stream.write_all(from), &mut self.faults, SinkFailed)
+        counted(
+            self.stream.write_all(from),
+            Call::Write,
+            &mut self.faults,
+            SinkFailed,
+        )
     }
 }
 
