@@ -171,7 +171,8 @@ def main():
             entries, kills, steps, repeats, status = 0, 0, [], 0, None
             while status != 0:
                 # one in eight within the first two thousandths of a second, so that some fall before the call's first write
-                longest = 2_000 if rng.random() < 0.125 else int(whole * 250_000)
+                # in memory a run takes little more than the start of a process
+                longest = 2_000 if rng.random() < 0.125 else max(int(whole * 250_000), 3_000)
                 seconds = rng.randint(0, longest) / 1e6 if count["kills"] < wanted else None
                 before, octets = entries, octets_of(work)
                 status, out = call(work, seconds)

@@ -10,7 +10,7 @@ use std::io;
 use std::io::ErrorKind;
 use thiserror::Error;
 
-/// Why no work could begin. Nothing was read or written then.
+/// Why no work could begin. Nothing was read or written then, but that `init` may have made an empty state file.
 #[derive(Clone, Copy, Debug, Error)]
 pub enum NoStart<'a> {
     /// What has this name can't be opened or read.
