@@ -48,7 +48,7 @@ fn why_corrupt<B: Board>(board: &mut B, at: u64) -> Option<Unformatted> {
     }
     match journal.entry(board, &mut entry) {
         Ok(_) => Some(Unformatted::Misplaced { at }),
-        Err(JournalFault::Corrupt { .. }) => Some(Unformatted::Broken { at }),
+        Err(JournalFault::Corrupt { at }) => Some(Unformatted::Broken { at }),
         Err(_) => None,
     }
 }

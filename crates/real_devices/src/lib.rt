@@ -7,6 +7,7 @@ mod file_board;
 mod file_id;
 mod file_source;
 mod held_file;
+mod lines;
 mod plant;
 mod sender;
 mod standard_streams;

@@ -3,11 +3,11 @@ ghost use Rattle.std.specs.Prelude.{◌≡◌};
 ghost use Rattle.real_devices.specs.Plant.{action_line};
 
 use crate::file_id::FileId;
+use crate::lines::append;
 use board_core::{Act, Bytes};
 use hex::encode_to_slice;
 use std::alloc::Global;
 use std::fs::{File, OpenOptions};
-use std::io::{ErrorKind, Write};
 use std::os::unix::fs::FileExt;
 use std::rt::Files;
 use std::{fs, io};
@@ -40,6 +40,7 @@ impl Plant {
     /// Appends the action's line in one write. Where the file's last line has no end, this line begins behind one.
     pub fn act(&mut self, kind: Act, id: u16) -> io::Result<()> {
         let line = line_of(kind, id);
+        line.fits();
         append(&mut self.file, &mut self.cut, line.as_slice())
     }
 }
@@ -56,36 +57,6 @@ fn is_cut<R: Files<File = File>>(rt: &R, path: &str, file: &File) -> io::Result<
     Ok(last != *b"\n")
 }
 
-// Appends a line to what may be cut off, and notes whether it is now.
-fn append<W: Write>(file: &mut W, cut: &mut bool, line: &[u8]) -> io::Result<()> {
-    let mut octets = Bytes::<32>::new();
-    if *cut {
-        let _ = octets.extend(b"\n".as_slice());
-    }
-    let _ = octets.extend(line);
-    let written = write_once(file, octets.as_slice())?;
-    if written == octets.as_slice().len() {
-        *cut = false;
-        return Ok(());
-    }
-    // the end of the line before may be all that was written
-    if written > 0 {
-        *cut = !*cut || written > 1;
-    }
-    Err(io::Error::new(ErrorKind::WriteZero, "only a part of the line was written"))
-}
-
-// One write, and another one only where a signal kept it from writing anything.
-fn write_once<W: Write>(file: &mut W, octets: &[u8]) -> io::Result<usize> {
-    for _ in 0..u64::MAX {
-        match file.write(octets) {
-            Err(error) if error.kind() == ErrorKind::Interrupted => {}
-            answer => return answer,
-        }
-    }
-    Err(io::Error::from(ErrorKind::Interrupted))
-}
-
 // The action's word, a space, the record's id in four lower-case hexadecimal digits, and 0Ah.
 fn line_of(kind: Act, id: u16) -> Bytes<24>
     ensures { result ≡ action_line kind id }
@@ -99,6 +70,3 @@ fn line_of(kind: Act, id: u16) -> Bytes<24>
     let _ = line.extend(b"\n".as_slice());
     line
 }
-
-#[cfg(test)]
-mod tests;
