@@ -2,7 +2,7 @@
 import os
 import signal
 
-from common import CLOSED, MADE, equal, opened, said, script, state, taken
+from common import CLOSED, MADE, entry, equal, event, opened, said, script, state, taken
 
 NOBODY = 65534
 FULL = "No space left on device (os error 28)"
@@ -149,3 +149,11 @@ def reasons(make):
     expected = 'settings: expected the one line filter = "...", with 40 hexadecimal digits between the quotes\n'
     one.check((4, "settings text\n", expected), "init", "state", "settings")
     equal(one.read("state"), b"", "the state file of settings that are refused")
+    # events under one ID are logged once, and this one asks for no action
+    quiet = entry(b"\x01" + event(1)[:13] + b"\x53" + event(1)[14:])
+    room = 16_777_216 - len(state(opened(0), CLOSED))
+    content = state(opened(0), CLOSED, quiet * (room // len(quiet)))
+    one.write("state", content)
+    most = "state: there is no room for the next entry; a state file has at most 16,777,216 octets\n"
+    one.check((9, "full\n", most), "run", "state", "script")
+    equal(one.read("state") == content, True, "a state file that is full stays as it is")
