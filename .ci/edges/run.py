@@ -11,6 +11,7 @@ import descriptors
 import faults
 import locks
 import plant
+import reasons
 import same_file
 from common import Call, Wrong
 
@@ -28,7 +29,7 @@ def main(program):
             return Call(program, f"{folder}/{count}")
 
         wrong = 0
-        for part in (descriptors, locks, plant, same_file, faults):
+        for part in (descriptors, locks, plant, same_file, faults, reasons):
             try:
                 part.check(make)
             except Wrong as fault:
