@@ -3,7 +3,13 @@
 # Outside the merge gate. It works on a copy in a temporary folder, with that test alone, and proves nothing. It ends behind the
 # last allocation, or with a status other than 0 where a test fails.
 # usage: tests.sh [FIRST] [LAST]      the allocations from 1 on; it goes no further than 100
+#        tests.sh --quick      the first one alone, so that the script goes on working
 set -eu
+quick=
+if [ "${1:-}" = --quick ]; then
+    quick=yes
+    set -- 1 1
+fi
 first=${1:-1}
 last=${2:-100}
 top=$(cd "$(dirname "$0")/../.." && pwd)
@@ -38,4 +44,4 @@ for number in $(seq "$first" "$last"); do
         exit 0
     fi
 done
-echo "there are more than $last allocations"
+[ -n "$quick" ] || echo "there are more than $last allocations"

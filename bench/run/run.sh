@@ -4,7 +4,17 @@
 # The two take turns in rounds, short ones on the disk, whose pace swings; the medians of the rounds count, and the median of their
 # ratios. Times are of whole processes, but of the C loop alone; entries are counted by the report's lines, less the last.
 # usage: run.sh [DISK_ENTRIES] [MEMORY_ENTRIES]      so many in a round; DISK names the folder on the disk, else it is this repository
+#        run.sh --quick      one short round of each, whose figures say nothing: it runs behind the gate, so that the script goes on working
 set -eu
+disk_rounds=25
+memory_rounds=9
+length=2097152
+if [ "${1:-}" = --quick ]; then
+    set -- 30 3000
+    disk_rounds=1
+    memory_rounds=1
+    length=65536
+fi
 on_disk=${1:-300}
 in_memory=${2:-300000}
 here=$(cd "$(dirname "$0")" && pwd)
@@ -79,8 +89,8 @@ store() {
     }'
 }
 
-store "on disk" "$disk" "$on_disk" 25
-store "in memory" "$memory" "$in_memory" 9
+store "on disk" "$disk" "$on_disk" "$disk_rounds"
+store "in memory" "$memory" "$in_memory" "$memory_rounds"
 
 # opening NAME OCTETS SAME: each call opens the file, finds its script closed, and stores nothing
 printf 'script 00000000 0\nend\n' > "$memory/closed"
@@ -89,10 +99,10 @@ opening() {
     entries=$(make_state "$memory/opened" "$2" "$3")
     took=$(for _ in 1 2 3 4 5; do seconds "$program" run "$memory/opened" "$memory/closed"; done | median)
     [ "$(cat "$memory/out")" = "ok 0" ]
-    awk -v name="$1" -v n="$entries" -v t="$took" 'BEGIN { printf "%-22s %7d entries   %.4f s %9.0f a second\n", name, n, t, n / t }'
+    awk -v name="$1" -v n="$entries" -v t="$took" 'BEGIN { printf "%-24s %7d entries   %.4f s %9.0f a second\n", name, n, t, n / t }'
 }
 
-opening "open 2 MiB, one ID" 2097152 one
-opening "open 4 MiB, one ID" 4194304 one
-opening "open 2 MiB, 1,000 IDs" 2097152 many
-opening "open 4 MiB, 1,000 IDs" 4194304 many
+for octets in "$length" $((2 * length)); do
+    opening "open $((octets / 1024)) KiB, one ID" "$octets" one
+    opening "open $((octets / 1024)) KiB, 1,000 IDs" "$octets" many
+done

@@ -1,7 +1,10 @@
 #!/usr/bin/env bash
 # Messages a second of `decode` on one core, beside a loop in C (gcc -O2) that reads the same grammar.
 # Outside the merge gate, which takes no main.rt outside a crate: the program is main.rattle. It proves and builds a copy in a temporary folder, and takes the least processor time of five runs.
+# usage: run.sh [--quick]      the quick mode proves nothing, reads few messages, and compares the two sums alone; it runs behind the gate
 set -eu
+quick=
+[ "${1:-}" = --quick ] && quick=yes
 messages=20000000
 here=$(cd "$(dirname "$0")" && pwd)
 top=$(cd "$here/../.." && pwd)
@@ -11,11 +14,26 @@ trap 'rm -rf "$work"' EXIT
 git init -q "$work"
 mkdir -p "$work/crates/bench_trap/src"
 cp "$top/HANDLES" "$work/"
-cp -r "$top/crates/board_core" "$top/crates/snmp_trap" "$work/crates/"
+"$here/../crates_below" snmp_trap > "$work/crates.txt"
+for crate in $(sed 's/[ :].*//' "$work/crates.txt"); do
+    (cd "$top" && tar cf - --exclude=out "crates/$crate") | tar xf - -C "$work"
+done
+echo 'bench_trap: anyhow snmp_trap' >> "$work/crates.txt"
 cp "$here/main.rattle" "$work/crates/bench_trap/src/main.rt"
-printf 'board_core: arrayvec\nsnmp_trap: board_core\nbench_trap: anyhow snmp_trap\n' > "$work/crates.txt"
-(cd "$work/crates/bench_trap" && rt run > "$work/log" 2>&1) || { cat "$work/log"; exit 1; }
-gcc -O2 -o "$work/reader" "$here/reader.c"
+cp "$here/reader.c" "$work/"
+cd "$work/crates/bench_trap"
+
+if [ -n "$quick" ]; then
+    sed -i 's/20_000_000/20_000/' src/main.rt
+    sed -i "s/$messages/20000/" "$work/reader.c"
+    gcc -O2 -o "$work/reader" "$work/reader.c"
+    rt try > "$work/log" 2>&1 || { cat "$work/log"; exit 1; }
+    grep -qx "$("$work/reader")" "$work/log" || { echo "the two sums differ" >&2; cat "$work/log" >&2; exit 1; }
+    echo "bench/snmp_trap: both readers say the same of 20,000 messages"
+    exit
+fi
+rt run > "$work/log" 2>&1 || { cat "$work/log"; exit 1; }
+gcc -O2 -o "$work/reader" "$work/reader.c"
 
 TIMEFORMAT=%U
 least() {

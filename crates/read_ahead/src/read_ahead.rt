@@ -31,6 +31,13 @@ impl<B: Board + Drop> ReadAhead<B> {
             window: Window::new(alloc)?,
         })
     }
+
+    /// The board below.
+    pub fn board(&self) -> &B
+        ensures { result.now ≡ self.now.board }
+    {
+        &self.board
+    }
 }
 
 impl<B: Board> ReadAhead<B> {

@@ -7,13 +7,13 @@ use Rattle.real_devices.specs.declared.file_source.FileSource.{FileSource}
 use Rattle.real_devices.specs.declared.std_sink.StdSink.{StdSink}
 
 abbrev pub board_view : {R : Type 0} → FileBoard R → BoardView
-board_view board = silent_view board.disk_faults board.issue_faults
+board_view board = silent_view board.disk.count board.issue.count
 
 abbrev pub board_sound : {R : Type 0} → (board : FileBoard R) → IsSound (board_view board)
-board_sound board = silent_sound board.disk_faults board.issue_faults board.disk_counted board.issue_counted
+board_sound board = silent_sound board.disk.count board.issue.count board.disk.counted board.issue.counted
 
 abbrev pub source_faults : FileSource → ℕ
-source_faults source = source.faults
+source_faults source = source.faults.count
 
 abbrev pub sink_faults : {W : Type 0} → StdSink W → ℕ
-sink_faults sink = sink.faults
+sink_faults sink = sink.faults.count

@@ -1,11 +1,13 @@
 // A file as a source.
 ghost use Rattle.std.specs.Prelude.{None};
-ghost use Rattle.board_core.specs.Causes.{IsCount};
+ghost use Rattle.std.specs.Io.{ReadsAtMost};
 
-use crate::faults::counted;
+use crate::failure::{Call, Failure};
+use crate::faults::{Faults, counted};
+use crate::file_id::FileId;
 use board_core::{Source, SourceFailed};
 use std::fs::File;
-use std::io::Read;
+use std::io::{ErrorKind, Read};
 use std::rt::Files;
 use std::{fs, io};
 
@@ -13,8 +15,7 @@ use std::{fs, io};
 #[derive(Drop)]
 pub struct FileSource {
     file: File,
-    faults: u64,
-    ghost counted: { IsCount faults },
+    faults: Faults,
 }
 
 impl FileSource {
@@ -27,8 +28,18 @@ impl FileSource {
     {
         Ok(FileSource {
             file: fs::open(rt, path)?,
-            faults: 0,
+            faults: Faults::new(),
         })
+    }
+
+    /// Which file of the system it is.
+    pub fn id(&self) -> io::Result<FileId> {
+        FileId::of(&self.file)
+    }
+
+    /// The first read that failed.
+    pub fn failure(&self) -> Option<Failure> {
+        self.faults.first
     }
 }
 
@@ -39,11 +50,25 @@ impl Source for FileSource {
 
     ghost faults = { source_faults };
 
-    ghost counted = { λ source. source.counted };
+    ghost counted = { λ source. source.faults.counted };
 
     fn read(&mut self, into: &mut [u8]) -> Result<usize, SourceFailed> {
-        counted(self.file.read(into), &mut self.faults, SourceFailed)
+        let count = read_on(&mut self.file, into);
+        counted(count, Call::Read, &mut self.faults, SourceFailed)
     }
+}
+
+// Reads, and again where a signal interrupted the call.
+fn read_on<R: Read>(reader: &mut R, into: &mut [u8]) -> io::Result<usize>
+    ensures { ReadsAtMost result into.new }
+{
+    for _ in 0..u64::MAX {
+        match reader.read(into) {
+            Err(error) if error.kind() == ErrorKind::Interrupted => {}
+            answer => return answer,
+        }
+    }
+    Err(io::Error::from(ErrorKind::Interrupted))
 }
 
 #[cfg(test)]

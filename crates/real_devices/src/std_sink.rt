@@ -1,8 +1,8 @@
 // A stream as a sink.
 ghost use Rattle.std.specs.Prelude.{◌≡◌, None};
-ghost use Rattle.board_core.specs.Causes.{IsCount};
 
-use crate::faults::counted;
+use crate::failure::{Call, Failure};
+use crate::faults::{Faults, counted};
 use board_core::{Sink, SinkFailed};
 use std::io::Write;
 
@@ -10,8 +10,7 @@ use std::io::Write;
 #[derive(Drop)]
 pub struct StdSink<W> {
     stream: W,
-    faults: u64,
-    ghost counted: { IsCount faults },
+    faults: Faults,
 }
 
 impl<W: Write + Drop> StdSink<W> {
@@ -21,7 +20,15 @@ impl<W: Write + Drop> StdSink<W> {
     pub fn new(stream: W) -> StdSink<W>
         ensures { sink_faults result ≡ 0 }
     {
-        StdSink { stream, faults: 0 }
+        StdSink {
+            stream,
+            faults: Faults::new(),
+        }
+    }
+
+    /// The first write that failed.
+    pub fn failure(&self) -> Option<Failure> {
+        self.faults.first
     }
 }
 
@@ -32,10 +39,15 @@ impl<W: Write + Drop> Sink for StdSink<W> {
 
     ghost faults = { sink_faults };
 
-    ghost counted = { λ sink. sink.counted };
+    ghost counted = { λ sink. sink.faults.counted };
 
     fn write(&mut self, from: &[u8]) -> Result<(), SinkFailed> {
-        counted(self.stream.write_all(from), &mut self.faults, SinkFailed)
+        counted(
+            self.stream.write_all(from),
+            Call::Write,
+            &mut self.faults,
+            SinkFailed,
+        )
     }
 }
 

@@ -12,7 +12,7 @@ fn a_stream_takes_what_is_written_and_a_full_one_does_not(rt: HostRuntime) {
     let mut sink = StdSink::new(fs::create(&rt, path.as_str()).expect(&rt, "a file"));
     assert_eq!(rt; sink.write(b"close\n"), Ok(()));
     assert_eq!(rt; sink.write(b"ok 1\n"), Ok(()));
-    assert_eq!(rt; sink.faults, 0);
+    assert_eq!(rt; sink.faults.count, 0);
     let text = fs::read_to_string(&rt, path.as_str()).expect(&rt, "the file");
     assert_eq!(rt; text.as_str(), "close\nok 1\n");
     fs::remove_file(&rt, path.as_str()).expect(&rt, "the file");
@@ -24,7 +24,7 @@ fn a_stream_takes_what_is_written_and_a_full_one_does_not(rt: HostRuntime) {
     let mut sink = StdSink::new(full);
     for faults in [1, 2] {
         assert_eq!(rt; sink.write(b"ok 1\n"), Err(SinkFailed));
-        assert_eq!(rt; sink.faults, faults);
+        assert_eq!(rt; sink.faults.count, faults);
     }
 
     let mut sink = StdSink::new(rt.stdout());

@@ -1,0 +1,33 @@
+"""What is said of files and texts that make no sense, and of a file that is full."""
+from common import CLOSED, MADE, entry, equal, event, opened, state
+
+
+def check(make):
+    one = make()
+    gate = len(MADE) - 1
+    for content, reason in (
+        (b"", "not formatted as a controller's state file, from octet 0 on"),
+        (b"\x00" + MADE[1:], "not formatted as a controller's state file, from octet 0 on"),
+        (b"\xa5\x02\x02\x00\x6f\x02\x00", "not formatted as a controller's state file, from octet 0 on"),
+        (MADE[:-1], "not formatted as a controller's state file, from octet 0 on"),
+        (state(opened(1))[:-1], f"broken at octet {gate}: no whole entry stands there"),
+        (state(opened(1), b"\xa5\xff\xff"), f"broken at octet {gate + 12}: no whole entry stands there"),
+        (state(CLOSED), f"broken at octet {gate}: the entry there is none that may come there"),
+        (state(opened(1), b"\xa5\x01\x00\x99"), f"broken at octet {gate + 12}: the entry there is none that may come there"),
+    ):
+        one.write("state", content)
+        one.check((3, "unformatted\n", f"state: {reason}\n"), "run", "state", "script")
+        equal(one.read("state"), content, "a state file that makes no sense")
+    one.write("settings", "filter = 1\n")
+    one.write("state", b"")
+    expected = 'settings: expected the one line filter = "...", with 40 hexadecimal digits between the quotes\n'
+    one.check((4, "settings text\n", expected), "init", "state", "settings")
+    equal(one.read("state"), b"", "the state file of settings that are refused")
+    # events under one ID are logged once, and this one asks for no action
+    quiet = entry(b"\x01" + event(1)[:13] + b"\x53" + event(1)[14:])
+    room = 16_777_216 - len(state(opened(0), CLOSED))
+    content = state(opened(0), CLOSED, quiet * (room // len(quiet)))
+    one.write("state", content)
+    most = "state: there is no room for the next entry; a state file has at most 16,777,216 octets\n"
+    one.check((9, "full\n", most), "run", "state", "script")
+    equal(one.read("state") == content, True, "a state file that is full stays as it is")

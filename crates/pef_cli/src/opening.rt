@@ -1,0 +1,55 @@
+//! Opening the files that a form's words name.
+use crate::asked::Asked;
+use crate::form::Form;
+use crate::no_start::NoStart;
+use real_devices::{FileBoard, FileSource, HeldFile, Plant};
+
+/// Opens the other file, then the state file with its plant. `init` creates the state file where it is missing. Nothing is read or
+/// written.
+pub fn open_files<'r, 'a>(
+    rt: &'r HostRuntime,
+    asked: &Asked<'a>,
+) -> Result<(FileBoard<'r, HostRuntime>, FileSource), NoStart<'a>> {
+    let (state, second) = (asked.state, asked.second);
+    // this one first, so that no state file is made where it is missing
+    let source = FileSource::open(rt, second).map_err(|error| NoStart::of(second, error))?;
+    let opened = match asked.form {
+        Form::Init => HeldFile::create(rt, state),
+        Form::Run => HeldFile::open(rt, state),
+    };
+    let file = opened.map_err(|fault| NoStart::of_state(state, fault))?;
+    if asked.form == Form::Init {
+        check_settings(asked, &file, &source)?;
+    }
+    let plant = open_plant(rt, state, &file)?;
+    Ok((FileBoard::new(rt, file, plant), source))
+}
+
+// The state file isn't the settings: it would be made of its own octets.
+fn check_settings<'a>(
+    asked: &Asked<'a>,
+    file: &HeldFile,
+    source: &FileSource,
+) -> Result<(), NoStart<'a>> {
+    let state = file.id().map_err(|error| NoStart::of(asked.state, error))?;
+    let settings = source
+        .id()
+        .map_err(|error| NoStart::of(asked.second, error))?;
+    if settings == state {
+        return Err(NoStart::SettingsAreState(asked.second));
+    }
+    Ok(())
+}
+
+// The plant's file, which isn't the state file by another name.
+fn open_plant<'a>(rt: &HostRuntime, state: &'a str, file: &HeldFile) -> Result<Plant, NoStart<'a>> {
+    let plant = Plant::beside(rt, rt.alloc(), state).map_err(|error| NoStart::of_plant(
+        state, error,
+    ))?;
+    let id = plant.id().map_err(|error| NoStart::of_plant(state, error))?;
+    let state_id = file.id().map_err(|error| NoStart::of(state, error))?;
+    if id == state_id {
+        return Err(NoStart::PlantIsState(state));
+    }
+    Ok(plant)
+}

@@ -1,0 +1,54 @@
+//! Where a file stops making sense as a controller's state file.
+use board_core::{Board, Payload};
+use pef_core::Controller;
+use pef_engine::{Engine, EngineFault};
+use pef_journal::{Journal, JournalFault};
+use std::alloc::Global;
+use thiserror::Error;
+
+// The kind of a controller's state file, and the length of its settings.
+const CONTROLLER: u8 = 1;
+
+const SETTINGS: usize = 55;
+
+/// Why a file isn't a controller's state file. Places are in octets from 0 on.
+#[derive(Clone, Copy, Debug, PartialEq, Eq, Error)]
+pub enum Unformatted {
+    /// It has no header of one.
+    #[error("not formatted as a controller's state file, from octet 0 on")]
+    Header,
+    /// No whole entry stands here.
+    #[error("broken at octet {at}: no whole entry stands there")]
+    Broken { at: u64 },
+    /// The entry that stands here is unknown, or may not come behind those before it.
+    #[error("broken at octet {at}: the entry there is none that may come there")]
+    Misplaced { at: u64 },
+}
+
+/// Looks for the place again. None where the file could not be read, or there was no memory. Writes nothing.
+pub fn why_unformatted<B: Board>(alloc: Global, board: &mut B) -> Option<Unformatted> {
+    match Engine::<Controller>::open(alloc, board) {
+        Ok(_) => None,
+        Err(EngineFault::NotFormatted) => Some(Unformatted::Header),
+        Err(EngineFault::Corrupt { at }) => why_corrupt(board, at),
+        Err(_) => None,
+    }
+}
+
+// Reads the entries before this place, and looks whether a whole one stands there.
+fn why_corrupt<B: Board>(board: &mut B, at: u64) -> Option<Unformatted> {
+    let mut settings = [0; SETTINGS];
+    let mut journal = Journal::open(board, CONTROLLER, &mut settings).ok()?;
+    let mut entry = Payload::new();
+    for _ in 0..at {
+        if journal.place() >= at {
+            break;
+        }
+        let _ = journal.entry(board, &mut entry).ok()?;
+    }
+    match journal.entry(board, &mut entry) {
+        Ok(_) => Some(Unformatted::Misplaced { at }),
+        Err(JournalFault::Corrupt { at }) => Some(Unformatted::Broken { at }),
+        Err(_) => None,
+    }
+}
