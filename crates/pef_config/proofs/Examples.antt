@@ -1,7 +1,7 @@
 -- Worked examples of the definitions: values after writes, codes and replies.
-use Rattle.std.proofs.Common.{◌≡◌, ℕ, true, false, List, [], ◌∷◌, ◌++◌, replicate, refl}
+use Rattle.std.proofs.Common.{◌≡◌, ℕ, true, false, List, [], ◌∷◌, replicate, refl}
 use Rattle.pef_config.specs.declared.initial.Initial.{Initial}
-use Rattle.pef_config.specs.Places.{our_sizes, SetInProgress, Control, FirstOctet, filter_at, Tables, Write, write, value}
+use Rattle.pef_config.specs.Places.{our_sizes, SetInProgress, Control, filter_at, Tables, Write, write, value}
 use Rattle.pef_config.specs.Rows.{set_code, get_reply}
 
 abbrev filter_1 : List ℕ

@@ -1,12 +1,11 @@
 -- The table of filters in which filter 1 alone was set.
-use Rattle.std.proofs.Common.{◌≡◌, ◌≢◌, ℕ, zero, suc, ◌-◌, ◌<◌, ◌≤◌, ◌+◌, ◌∙◌, ◌⊎◌, ap, sym, subst, inl, inr, refl, true, false, not, cond, List, [], replicate, take, drop, length, get_or, arith, eqb}
+use Rattle.std.proofs.Common.{◌≡◌, ◌≢◌, ℕ, zero, suc, ◌-◌, ◌<◌, ◌≤◌, ◌∙◌, ◌⊎◌, ap, sym, subst, inl, inr, refl, true, false, not, cond, List, [], replicate, take, drop, get_or, arith, eqb}
 use Rattle.std.proofs.lemmas.Bool.{cases_eq, cases_lt}
 use Rattle.std.proofs.lemmas.Bool.Decides.{nat_tests}
 use Rattle.std.proofs.lemmas.List.{get_or-replicate, get_or_past}
 use Rattle.filter_table.specs.Filters.{is_number, numbered, no_filters, Replaces}
 use Rattle.pef_config.proofs.Numbered.{numbered-one_on}
 use Rattle.pef_config.specs.declared.initial.Initial.{Initial}
-use Rattle.pef_config.specs.declared.config.Config.{Config}
 use Rattle.pef_config.specs.Kept.{tables}
 use Rattle.pef_config.specs.Places.{Place, SetInProgress, Control, Actions, Delay, FirstOctet, OtherOctets, our_sizes, initial_filter, initial_value}
 

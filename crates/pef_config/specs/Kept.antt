@@ -1,8 +1,8 @@
 -- What stands at each place, by the octets and the filters that are kept.
-use Rattle.std.specs.Prelude.{List, [], ◌∷◌, take, drop}
+use Rattle.std.specs.Prelude.{[], ◌∷◌, take, drop}
 use Rattle.filter_table.specs.Filters.{numbered}
 use Rattle.pef_config.specs.declared.config.Config.{Config}
-use Rattle.pef_config.specs.Places.{Place, Tables, SetInProgress, Control, Actions, Delay, FirstOctet, OtherOctets}
+use Rattle.pef_config.specs.Places.{Tables, SetInProgress, Control, Actions, Delay, FirstOctet, OtherOctets}
 
 abbrev pub tables : Config → Tables
 tables c SetInProgress = c.set_in_progress ∷ []

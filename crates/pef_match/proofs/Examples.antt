@@ -1,7 +1,7 @@
 -- Worked examples of the definitions: what a fan's event asks for under filters on its sensor type and its offset.
 use Rattle.std.proofs.Common.{◌≡◌, ℕ, true, false, Bool, cond, eqb, List, [], ◌∷◌, replicate, take, drop, Option, Some, None, refl}
 use Rattle.board_core.specs.declared.step.Act.{Act}
-use Rattle.board_core.specs.declared.step.Act.TheVariants.{PowerDown, PowerCycle, Reset, DiagInt}
+use Rattle.board_core.specs.declared.step.Act.TheVariants.{PowerDown, PowerCycle, Reset}
 use Rattle.filter_table.specs.BitTest.{fits, is_match}
 use Rattle.pef_config.specs.Places.{Tables, SetInProgress, Control, Actions, Delay, FirstOctet, OtherOctets, our_sizes}
 use Rattle.pef_match.specs.Parts.{Parts}
