@@ -1,6 +1,6 @@
 // The texts of the faults.
 use crate::init_fault::InitFault;
-use crate::starting::NoStart;
+use crate::no_start::NoStart;
 use std::alloc::AllocError;
 
 #[test]
@@ -19,8 +19,27 @@ fn a_fault_says_what_is_wrong(rt: HostRuntime) -> Result<(), AllocError> {
     for (fault, text) in cases {
         assert_eq!(rt; format!(in alloc; "{fault}")?.as_str(), text);
     }
-    let (file, memory) = (NoStart::File, NoStart::Memory);
-    assert_eq!(rt; format!(in alloc; "{file}")?.as_str(), "cannot start");
-    assert_eq!(rt; format!(in alloc; "{memory}")?.as_str(), "memory");
+    let rows = [
+        (
+            NoStart::Held("state"),
+            "cannot start",
+            "state: another call of the program is at work on it",
+        ),
+        (
+            NoStart::SettingsAreState("state"),
+            "cannot start",
+            "state: it is the state file and the settings at once",
+        ),
+        (
+            NoStart::PlantIsState("state"),
+            "cannot start",
+            "state.plant: it is the state file itself",
+        ),
+        (NoStart::Memory, "memory", "out of memory"),
+    ];
+    for (fault, line, text) in rows {
+        assert_eq!(rt; fault.line(), line);
+        assert_eq!(rt; format!(in alloc; "{fault}")?.as_str(), text);
+    }
     Ok(())
 }
