@@ -6,7 +6,7 @@ ghost use Rattle.alert_strings.specs.Table.{number_fault, block_fault, block_pla
 ghost use Rattle.alert_strings.specs.Lookup.{string_for};
 
 use crate::fault::StringFault;
-use crate::numbers::{place_of, places_of};
+use crate::numbers::{asks_for_set, place_of, places_of, string_numbered};
 use crate::text::{filled, first_with, text_in};
 use board_core::{Bytes, Text};
 
@@ -81,13 +81,11 @@ impl Strings {
         ensures { result ≡ string_for 8 (keys self.now) key filter }
     {
         let wanted = key % 128;
-        if key >= 128 {
-            return first_with(&self.keys, filter, wanted);
+        if asks_for_set(key) {
+            first_with(&self.keys, filter, wanted)
+        } else {
+            string_numbered(wanted)
         }
-        if wanted == 0 || wanted > 8 {
-            return None;
-        }
-        Some(wanted)
     }
 
     /// The text of a string: the octets before the first 00h, cut to 61.

@@ -1,9 +1,14 @@
 //! Worked attempts, and all small ones against a slow attempt by the definition.
+ghost use Rattle.std.specs.Prelude.{◌≡◌};
+
 use super::*;
 use board_core::{Address, Community, Told};
 use std::process::Abort;
 
-fn destination(acknowledged: bool, wait: u16, retries: u8) -> Destination {
+fn destination(acknowledged: bool, wait: u16, retries: u8) -> Destination
+    ensures wait { result.wait ≡ wait }
+    ensures retries { result.retries ≡ retries }
+{
     Destination {
         to: Address {
             ip: [10, 0, 0, 9],
@@ -22,7 +27,7 @@ fn destination(acknowledged: bool, wait: u16, retries: u8) -> Destination {
 struct Slow {
     acknowledged: bool,
     wait: u16,
-    retries: u16,
+    retries: u8,
     ticks: u16,
     outcomes: u16,
     done: bool,
@@ -32,19 +37,20 @@ struct Slow {
 impl Slow {
     /// The first transmission, and one more for each whole wait since, as long as there are retries.
     fn due(&self) -> bool {
-        self.outcomes < 1 + self.retries.min(self.ticks / self.wait.max(1))
+        let whole_waits = self.ticks / self.wait.max(1);
+        self.outcomes < 1 + u16::from(self.retries).min(whole_waits)
     }
 
     fn verdict(&self) -> Option<bool> {
         if self.acknowledged {
             if self.acked {
                 Some(true)
-            } else if self.ticks / self.wait.max(1) > self.retries {
+            } else if self.ticks / self.wait.max(1) > u16::from(self.retries) {
                 Some(false)
             } else {
                 None
             }
-        } else if self.outcomes == 1 + self.retries {
+        } else if self.outcomes == 1 + u16::from(self.retries) {
             Some(self.done)
         } else {
             None
@@ -52,7 +58,7 @@ impl Slow {
     }
 }
 
-/// Compares an attempt with the slow one, and as resumed.
+/// Compares an attempt with the slow one.
 fn compare(rt: &impl Abort, attempt: &Attempt, slow: &Slow) {
     assert_eq!(rt; attempt.due(), slow.due());
     assert_eq!(rt; attempt.verdict(), slow.verdict());
@@ -71,7 +77,7 @@ fn run(rt: &impl Abort, to: &Destination, told: u32, acked: u16) {
     let mut slow = Slow {
         acknowledged: to.acknowledged,
         wait: to.wait,
-        retries: u16::from(to.retries),
+        retries: to.retries,
         ticks: 0,
         outcomes: 0,
         done: false,

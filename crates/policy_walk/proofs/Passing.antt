@@ -1,5 +1,7 @@
 -- Which stop comes first, where some are passed.
-use Rattle.std.proofs.Common.{◌≡◌, ℕ, suc, ◌+◌, ◌<◌, Bool, true, false, not, ◌||◌, cond, nat_eq, List, [], ◌∷◌, length, drop, Option, Some, None, refl, ap, ◌∙◌, arith}
+use Rattle.std.proofs.Common.{◌≡◌, ℕ, zero, suc, ◌+◌, Bool, true, false, not, ◌||◌, cond, nat_eq, nat_lt, List, [], ◌∷◌, length, drop, Option, Some, None, refl, sym, ap, ◌∙◌, arith}
+use Rattle.std.proofs.lemmas.Bool.{lt-ltb}
+use Rattle.std.proofs.lemmas.List.{at_drop_all}
 use Rattle.std.specs.Prelude.{◌&&◌}
 use Rattle.std.specs.List.{prefix_len}
 use Rattle.policy_walk.specs.declared.stop.Stop.{Stop}
@@ -20,12 +22,21 @@ module _ (stop : Stop) where
   pub wanted_after-4 : stop.policy ≡ 4 → wanted_after stop ≡ OtherKind stop.kind
   wanted_after-4 e = ap wanted_by e
 
--- after a failure the first stop is the next
-pub first_after_failure : (place : ℕ) (stops : List Stop) → 0 < length stops → first_tried Any false place stops ≡ Some place
-first_after_failure place [] some = absurd (omega arith)
-first_after_failure place (stop ∷ stops) some = always (nat_eq stop.policy 0) (Some place) _
+-- after a failure the first stop is the next, where there is one
+pub first_after_failure : (place from : ℕ) (stops : List Stop) → cond (nat_lt from (length stops)) (Some place) None ≡ first_tried Any false place (drop from stops)
+first_after_failure place from [] = ap (λ is_there. cond is_there (Some place) None) (none from) ∙ sym (at_drop_all (first_tried Any false place) [] from (omega arith))
   where
-    always : (zero : Bool) (x y : Option ℕ) → cond (zero || true) x y ≡ x
+    none : (n : ℕ) → nat_lt n 0 ≡ false
+    none n = grind arith
+first_after_failure place (suc n) (stop ∷ stops) =
+    ap (λ is_there. cond is_there (Some place) None) (one_less n (length stops)) ∙ first_after_failure place n stops
+  where
+    one_less : (n k : ℕ) → nat_lt (suc n) (suc k) ≡ nat_lt n k
+    one_less n k = grind arith
+first_after_failure place zero (stop ∷ stops) =
+    ap (λ is_there. cond is_there (Some place) None) (lt-ltb 0 (length (stop ∷ stops)) (omega arith)) ∙ always (nat_eq stop.policy 0) (Some place) _
+  where
+    always : (zero_policy : Bool) (x y : Option ℕ) → x ≡ cond (zero_policy || true) x y
     always true x y = refl
     always false x y = refl
 

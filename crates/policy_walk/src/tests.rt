@@ -29,6 +29,7 @@ fn a_walk_ends_at_a_success(rt: HostRuntime) {
         (stops[2].policy, stops[2].channel, stops[2].kind),
         (3, 2, 0)
     );
+    assert!(rt; stops.iter().all(|stop| stop.policy <= 4));
     for (results, next) in rows {
         let mut walk = Walk::start(&stops);
         for result in results {

@@ -1,5 +1,5 @@
 //! A walk over a policy set.
-ghost use Rattle.std.specs.Prelude.{◌≡◌, ◌+◌, ◌<◌, ◌≤◌, ◌++◌, [], ◌∷◌, List, Bool, length, drop, All, IsSome};
+ghost use Rattle.std.specs.Prelude.{◌≡◌, ◌+◌, ◌<◌, ◌≤◌, ◌++◌, [], ◌∷◌, List, Bool, length, drop, All, IsSome, nat_lt, if◌then◌else◌};
 ghost use Rattle.std.specs.Option.{ForSome};
 ghost use Rattle.policy_walk.specs.Tried.{Any, place_after};
 ghost use Rattle.policy_walk.specs.First.{first_tried};
@@ -91,7 +91,17 @@ fn next(stops: &[Stop], place: u8, success: bool) -> Option<u8>
     let from = usize::from(place) + 1;
     if success {
         next_after_success(stops, from)
-    } else if from < stops.len() {
+    } else {
+        next_after_failure(stops, from)
+    }
+}
+
+/// The place of the stop to be attempted, from this place on, where the last alert of the set failed: the first of them.
+fn next_after_failure(stops: &[Stop], from: usize) -> Option<u8>
+    requires few { length stops.now ≤ 16 }
+    ensures { result ≡ (if nat_lt from (length stops.now) then Some from else None) }
+{
+    if from < stops.len() {
         Some(from as u8)
     } else {
         None
