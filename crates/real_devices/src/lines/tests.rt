@@ -23,6 +23,7 @@ impl Write for Cut<'_> {
 }
 
 #[test]
+#[tactic(auto, using(crate::proofs::TestLines::first_line, crate::proofs::TestLines::second_line))]
 fn no_line_is_glued_to_another(rt: HostRuntime) {
     // how much the first write takes, whether the file was cut before, and what stands in the file at last
     for (room, cut, text) in [
