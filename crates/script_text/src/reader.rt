@@ -1,17 +1,12 @@
 // A reader of lines over a source.
-ghost use Rattle.std.specs.Prelude.{◌≡◌, ◌≤◌, ◌<◌, ℕ, List, [], Option, IfOk, OnOk, length};
+ghost use Rattle.std.specs.Prelude.{◌≡◌, ◌≤◌, ◌<◌, ℕ, List, [], Option, Some, IfOk, OnOk, OnErr, length};
 ghost use Rattle.board_core.specs.Causes.{HasCause};
 ghost use Rattle.script_text.specs.Lines.{line_limit, without_last};
-ghost use Rattle.script_text.specs.Reading.{HasLeft, GivesOctet, Finds};
-ghost use Rattle.script_text.specs.Script.{GivesForm, HasCount};
+ghost use Rattle.script_text.specs.Reading.{HasLeft, GivesOctet, Finds, FailsWithin};
 
-use crate::form::Form;
-use crate::parse::read_form;
+use crate::head::LINE_LIMIT;
 use board_core::{Bytes, Source, SourceFailed};
 use std::marker::Model;
-
-/// The longest line in octets, without its end.
-const LINE_LIMIT: usize = 1200;
 
 /// Room for the longest line and for the 0Dh of its end.
 pub type LineBuffer = Bytes<1201>;
@@ -61,6 +56,7 @@ impl Reader {
     fn fill<S: Source>(&mut self, source: &mut S) -> Result<(), SourceFailed>
         ensures filled { (text : List ℕ) → HasLeft self.old (S.left source.old) text → HasLeft self.new (S.left source.new) text }
         ensures over { (text : List ℕ) → HasLeft self.old (S.left source.old) text → OnOk result (self.new ≡ [] → text ≡ []) }
+        ensures failed { (text : List ℕ) → HasLeft self.old (S.left source.old) text → OnErr result (S.left source.new ≡ Some text) }
         ensures cause { HasCause (S.faults source.old) (S.faults source.new) result }
     {
         if self.at < self.end {
@@ -79,6 +75,7 @@ impl Reader {
     // The next octet, or None at the end of the text.
     fn next<S: Source>(&mut self, source: &mut S) -> Result<Option<u8>, SourceFailed>
         ensures octet { (text : List ℕ) → HasLeft self.old (S.left source.old) text → IfOk result (GivesOctet text self.new (S.left source.new)) }
+        ensures failed { (text : List ℕ) → HasLeft self.old (S.left source.old) text → OnErr result (S.left source.new ≡ Some text) }
         ensures cause { HasCause (S.faults source.old) (S.faults source.new) result }
     {
         self.fill(source)?;
@@ -90,15 +87,18 @@ impl Reader {
         Ok(Some(octet))
     }
 
-    /// Reads the next line, without its end, into `line`. Takes no memory.
+    /// Reads the next line, without its end, into `line`. Takes no memory. Of what the source gave, the reader holds at most 256
+    /// octets behind that line.
     ///
-    /// At `TooLong` and at an error what `line` holds is left open, and so is what is left of the text.
+    /// At `TooLong` what `line` holds and what is left of the text are left open. At an error no whole line was read since.
     pub fn line<S: Source>(
         &mut self,
         source: &mut S,
         line: &mut LineBuffer,
     ) -> Result<Found, SourceFailed>
         ensures found { (text : List ℕ) → HasLeft self.old (S.left source.old) text → IfOk result (Finds text self.new (S.left source.new) line.new) }
+        ensures failed { (text : List ℕ) → HasLeft self.old (S.left source.old) text → OnErr result (FailsWithin text (S.left source.new)) }
+        ensures held { length self.new ≤ 256 }
         ensures cause { HasCause (S.faults source.old) (S.faults source.new) result }
     {
         line.clear();
@@ -120,22 +120,6 @@ impl Reader {
                     }
                 }
             }
-        }
-    }
-
-    /// Reads the next line and answers its form: None where it has none, and where no line comes. Takes no memory.
-    ///
-    /// At None and at an error what is left of the text is left open.
-    pub fn form<S: Source>(&mut self, source: &mut S) -> Result<Option<Form>, SourceFailed>
-        ensures form { (text : List ℕ) → HasLeft self.old (S.left source.old) text → IfOk result (GivesForm text self.new (S.left source.new)) }
-        ensures count { IfOk result HasCount }
-        ensures cause { HasCause (S.faults source.old) (S.faults source.new) result }
-    {
-        let mut line = LineBuffer::new();
-        match self.line(source, &mut line)? {
-            Found::Line => Ok(read_form(line.as_slice())),
-            Found::TooLong => Ok(None),
-            Found::End => Ok(None),
         }
     }
 }
