@@ -1,6 +1,7 @@
 // IPv4 addresses with a port.
-ghost use Rattle.std.specs.Prelude.{◌≡◌, ◌<◌, [], ◌∷◌, Option, MatchOption, None};
-ghost use Rattle.script_text.specs.Forms.{parts_of, decimal_of, ip_number, address_of, address_of_numbers};
+ghost use Rattle.std.specs.Prelude.{◌≡◌, ◌≤◌};
+ghost use Rattle.std.specs.Option.{ForSome};
+ghost use Rattle.script_text.specs.Forms.{parts_of, ip_number, address_of, address_of_numbers};
 
 use crate::numbers::decimal;
 use crate::words::first_part;
@@ -16,12 +17,12 @@ pub fn address(word: &[u8]) -> Option<Address>
     if more.is_some() {
         return None;
     }
-    with_port(ip, decimal(port, 5, 65_535)?)
+    with_port(ip, decimal(port, 5, 65_535))
 }
 
-fn with_port(ip: &[u8], port: u32) -> Option<Address>
-    requires { port < 65536 }
-    ensures { result ≡ address_of_numbers (parts_of 46 ip.now) (Option.Some port) }
+fn with_port(ip: &[u8], port: Option<u32>) -> Option<Address>
+    requires { ForSome port (λ port. port ≤ 65535) }
+    ensures { result ≡ address_of_numbers (parts_of 46 ip.now) port }
 {
     let (a, rest) = first_part(ip, b'.');
     let (b, rest) = first_part(rest?, b'.');
@@ -31,8 +32,10 @@ fn with_port(ip: &[u8], port: u32) -> Option<Address>
         return None;
     }
     let ip = [ip_number(a)?, ip_number(b)?, ip_number(c)?, ip_number(d)?];
-    let port = port as u16;
-    Some(Address { ip, port })
+    Some(Address {
+        ip,
+        port: port? as u16,
+    })
 }
 
 // One number of an IPv4 address.

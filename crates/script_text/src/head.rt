@@ -31,7 +31,10 @@ pub fn read_head(word: &[u8], line: &[u8]) -> Option<Head>
     let (first, rest) = first_word(line);
     let (id, rest) = first_word(rest?);
     let (digits, rest) = first_word(rest?);
-    if first != word || rest.is_some() {
+    if rest.is_some() {
+        return None;
+    }
+    if first != word {
         return None;
     }
     let octets = octets_exactly::<4>(id)?;

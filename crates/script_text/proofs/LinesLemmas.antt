@@ -1,0 +1,141 @@
+-- The lines of a text from its front.
+use Rattle.std.proofs.Common.{◌≡◌, ◌≢◌, ℕ, zero, suc, ◌<◌, ◌≤◌, Bool, true, false, ◌&&◌, nat_eq, if◌then◌else◌, List, [], ◌∷◌, ◌++◌, length, take, drop, Option, Some, None, refl, sym, ◌∙◌, ap, subst, arith, append_assoc, slice_index_or, get_or, IsTrue, ◌↔◌}
+use Rattle.std.proofs.lemmas.List.{append-nil}
+use Rattle.std.proofs.lemmas.Bool.{ne_eqb, eq-eqb, false≢true}
+use Rattle.script_text.specs.Lines.{lines_of, begins_with, onto_first, without_last, HasNoEnd}
+use Rattle.script_text.specs.Reading.{HasLeft, IsTooLong, GivesOctet, Finds}
+use Rattle.script_text.proofs.Read.{IsReading}
+use Rattle.script_text.specs.declared.reader.Found.{Found}
+use Rattle.script_text.specs.declared.reader.Found.TheVariants.{Line, TooLong, End}
+
+-- an octet that ends no line goes onto the first line of the rest
+pub lines_octet : (b : ℕ) (text : List ℕ) → b ≢ 10 → begins_with 10 text ≡ false → lines_of (b ∷ text) ≡ onto_first b (lines_of text)
+lines_octet b text other none = rw (ne_eqb b 10 other) (rw none (by (nat_eq b 13)))
+  where
+    by : (t : Bool) → (if t && false then lines_of text else onto_first b (lines_of text)) ≡ onto_first b (lines_of text)
+    by true = refl
+    by false = refl
+
+pub lines_front : (line rest : List ℕ) → HasNoEnd line → lines_of (line ++ 10 ∷ rest) ≡ without_last 13 line ∷ lines_of rest
+lines_front [] rest none = refl
+lines_front (b ∷ []) rest none = rw (ne_eqb b 10 none.0) (by (nat_eq b 13))
+  where
+    by : (t : Bool) → (if t && true then [] ∷ lines_of rest else (b ∷ []) ∷ lines_of rest) ≡ (if t then [] else b ∷ []) ∷ lines_of rest
+    by true = refl
+    by false = refl
+lines_front (b ∷ c ∷ line) rest none =
+    lines_octet b (c ∷ line ++ 10 ∷ rest) none.0 (ne_eqb c 10 none.1.0) ∙ ap (onto_first b) (lines_front (c ∷ line) rest none.1)
+
+pub lines_last : (b : ℕ) (line : List ℕ) → HasNoEnd (b ∷ line) → lines_of (b ∷ line) ≡ (b ∷ line) ∷ []
+lines_last b [] none = lines_octet b [] none.0 refl
+lines_last b (c ∷ line) none = lines_octet b (c ∷ line) none.0 (ne_eqb c 10 none.1.0) ∙ ap (onto_first b) (lines_last c line none.1)
+
+-- the first of these lines has at least so many octets
+pub record BeginsLong (n : ℕ) (all : List (List ℕ)) : Type 0 where
+  pub line : List ℕ
+  pub more : List (List ℕ)
+  pub lines : all ≡ line ∷ more
+  pub long : n ≤ length line
+
+onto_long : (b n : ℕ) (lines : List (List ℕ)) → BeginsLong n lines → BeginsLong (suc n) (onto_first b lines)
+onto_long b n lines long = record { line = b ∷ long.line; more = long.more; lines = ap (onto_first b) long.lines; long = omega (arith, long.long) }
+
+any_long : (lines : List (List ℕ)) (b : ℕ) → BeginsLong 1 (onto_first b lines)
+any_long [] b = record { line = b ∷ []; more = []; lines = refl; long = omega arith }
+any_long (l ∷ lines) b = record { line = b ∷ l; more = lines; lines = refl; long = omega arith }
+
+-- behind some octets that end no line and one more the first line has at least these
+pub lines_long : (a : ℕ) (line rest : List ℕ) (b : ℕ) → HasNoEnd (a ∷ line) → b ≢ 10 → BeginsLong (length (a ∷ line)) (lines_of ((a ∷ line) ++ b ∷ rest))
+lines_long a [] rest b none other =
+    subst (BeginsLong 1) (sym (lines_octet a (b ∷ rest) none.0 (ne_eqb b 10 other))) (any_long (lines_of (b ∷ rest)) a)
+lines_long a (c ∷ line) rest b none other =
+    subst (BeginsLong (length (a ∷ c ∷ line))) (sym (lines_octet a (c ∷ line ++ b ∷ rest) none.0 (ne_eqb c 10 none.1.0)))
+    (onto_long a (length (c ∷ line)) (lines_of (c ∷ line ++ b ∷ rest)) (lines_long c line rest b none.1 other))
+
+pub no_end-push : (line : List ℕ) (b : ℕ) → HasNoEnd line → b ≢ 10 → HasNoEnd (line ++ b ∷ [])
+no_end-push [] b none other = (other, tt)
+no_end-push (a ∷ line) b none other = (none.0, no_end-push line b none.1 other)
+
+pub return_cut : (line : List ℕ) (n : ℕ) → length line ≡ suc n → get_or line n 0 ≡ 13 → take n line ≡ without_last 13 line
+return_cut [] n long last = absurd (omega (arith, long))
+return_cut (b ∷ []) zero long last = rw (eq-eqb b 13 last) refl
+return_cut (b ∷ []) (suc n) long last = absurd (omega (arith, long))
+return_cut (b ∷ c ∷ line) zero long last = absurd (omega (arith, long))
+return_cut (b ∷ c ∷ line) (suc n) long last = ap (λ l. b ∷ l) (return_cut (c ∷ line) n (omega (arith, long)) last)
+
+pub return_kept : (line : List ℕ) (n b : ℕ) → length line ≡ suc n → get_or line n 0 ≡ b → b ≢ 13 → line ≡ without_last 13 line
+return_kept [] n b long last other = refl
+return_kept (a ∷ []) zero b long last other = rw (ne_eqb a 13 (λ f. other (sym last ∙ f))) refl
+return_kept (a ∷ []) (suc n) b long last other = absurd (omega (arith, long))
+return_kept (a ∷ c ∷ line) zero b long last other = absurd (omega (arith, long))
+return_kept (a ∷ c ∷ line) (suc n) b long last other = ap (λ l. a ∷ l) (return_kept (c ∷ line) n b (omega (arith, long)) last other)
+
+-- what is held between two places of a chunk
+pub held_none : (chunk : List ℕ) (at end : ℕ) → at ≡ end → drop at (take end chunk) ≡ []
+held_none [] zero zero e = refl
+held_none [] zero (suc end) e = refl
+held_none [] (suc at) zero e = refl
+held_none [] (suc at) (suc end) e = refl
+held_none (x ∷ chunk) zero zero e = refl
+held_none (x ∷ chunk) zero (suc end) e = absurd (omega (arith, e))
+held_none (x ∷ chunk) (suc at) zero e = absurd (omega (arith, e))
+held_none (x ∷ chunk) (suc at) (suc end) e = held_none chunk at end (omega (arith, e))
+
+pub held_some : (chunk : List ℕ) (at end : ℕ) → at < end → end ≤ length chunk → drop at (take end chunk) ≡ slice_index_or chunk at 0 ∷ drop (suc at) (take end chunk)
+held_some [] at end before fits = absurd (omega (arith, before, fits))
+held_some (x ∷ chunk) at zero before fits = absurd (omega (arith, before))
+held_some (x ∷ chunk) zero (suc end) before fits = refl
+held_some (x ∷ chunk) (suc at) (suc end) before fits = held_some chunk at end (omega (arith, before)) (omega (arith, fits))
+
+-- one octet is handed out
+pub gives_octet : (text held next : List ℕ) (source : Option (List ℕ)) (octet : ℕ) → held ≡ octet ∷ next → HasLeft held source text → GivesOctet text next source (Some octet)
+gives_octet text held next source octet is left =
+    (next ++ left.rest, left.whole ∙ ap (λ l. l ++ left.rest) is, record { rest = left.rest; unread = left.unread; whole = refl })
+
+pub gives_none : (text held : List ℕ) (source : Option (List ℕ)) → held ≡ [] → (held ≡ [] → text ≡ []) → HasLeft held source text → GivesOctet text held source None
+gives_none text held source is over left = (over is, subst (HasLeft held source) (over is) left)
+
+-- reading goes on
+pub reading_start : (text held : List ℕ) (source : Option (List ℕ)) → HasLeft held source text → IsReading text held source []
+reading_start text held source left = record { rest = text; left = left; whole = refl }
+
+pub reading_octet : (text line held next : List ℕ) (source after : Option (List ℕ)) (octet : ℕ) → (r : IsReading text held source line) → GivesOctet r.rest next after (Some octet) → IsReading text next after (line ++ octet ∷ [])
+reading_octet text line held next source after octet r gives = record {
+  rest = gives.0;
+  left = gives.2;
+  whole = r.whole ∙ ap (λ l. line ++ l) gives.1 ∙ sym (append_assoc line (octet ∷ []) gives.0);
+}
+
+pub reading_over : (text line held next : List ℕ) (source after : Option (List ℕ)) → (r : IsReading text held source line) → GivesOctet r.rest next after None → text ≡ line
+reading_over text line held next source after r gives = r.whole ∙ ap (λ l. line ++ l) gives.0 ∙ append-nil line
+
+-- what was read is the next line
+pub names_ended : (text line held next : List ℕ) (source after : Option (List ℕ)) → (r : IsReading text held source line) → HasNoEnd line → (gives : GivesOctet r.rest next after (Some 10)) → lines_of text ≡ without_last 13 line ∷ lines_of gives.0
+names_ended text line held next source after r none gives = ap lines_of (r.whole ∙ ap (λ l. line ++ l) gives.1) ∙ lines_front line gives.0 none
+
+pub names_last : (text line : List ℕ) → HasNoEnd line → line ≢ [] → text ≡ line → lines_of text ≡ line ∷ lines_of []
+names_last text [] none some is = absurd (some refl)
+names_last text (b ∷ line) none some is = ap lines_of is ∙ lines_last b line none
+
+pub finds : (text line rest held : List ℕ) (source : Option (List ℕ)) (found : Found) → (found ≡ Line → length line ≤ 1200) → (found ≡ TooLong → 1200 < length line) → (found ≡ End → ⊥)
+    → HasLeft held source rest → lines_of text ≡ line ∷ lines_of rest → Finds text held source line found
+finds text line rest held source Line fits long other left lines = record { rest = rest; left = left; lines = lines; fits = fits refl }
+finds text line rest held source TooLong fits long other left lines = record { line = line; more = lines_of rest; lines = lines; long = long refl }
+finds text line rest held source End fits long other left lines = absurd (other refl)
+
+pub too_long : (text line held next : List ℕ) (source after : Option (List ℕ)) (octet : ℕ) → (r : IsReading text held source line) → HasNoEnd line → octet ≢ 10 → 1201 ≤ length line → GivesOctet r.rest next after (Some octet) → IsTooLong text
+too_long text [] held next source after octet r none other long gives = absurd (omega (arith, long))
+too_long text (a ∷ line) held next source after octet r none other long gives =
+    let l = lines_long a line gives.0 octet none other in record {
+      line = l.line;
+      more = l.more;
+      lines = ap lines_of (r.whole ∙ ap (λ k. a ∷ line ++ k) gives.1) ∙ l.lines;
+      long = omega (arith, l.long, long);
+    }
+
+pub not_below : (m n : ℕ) (t : Bool) → t ≡ false → IsTrue t ↔ (m < n) → n ≤ m
+not_below m n t refused room = let h : (m < n) → ⊥ = λ below. false≢true (subst IsTrue refused (room.1 below)) in omega (arith, h)
+
+pub no_octets : (line : List ℕ) → length line ≡ 0 → line ≡ []
+no_octets [] none = refl
+no_octets (b ∷ line) none = absurd (omega (arith, none))
