@@ -57,6 +57,7 @@ impl Reader {
         ensures filled { (text : List ℕ) → HasLeft self.old (S.left source.old) text → HasLeft self.new (S.left source.new) text }
         ensures over { (text : List ℕ) → HasLeft self.old (S.left source.old) text → OnOk result (self.new ≡ [] → text ≡ []) }
         ensures failed { (text : List ℕ) → HasLeft self.old (S.left source.old) text → OnErr result (S.left source.new ≡ Some text) }
+        ensures held { length self.new ≤ 256 }
         ensures cause { HasCause (S.faults source.old) (S.faults source.new) result }
     {
         if self.at < self.end {
@@ -76,6 +77,7 @@ impl Reader {
     fn next<S: Source>(&mut self, source: &mut S) -> Result<Option<u8>, SourceFailed>
         ensures octet { (text : List ℕ) → HasLeft self.old (S.left source.old) text → IfOk result (GivesOctet text self.new (S.left source.new)) }
         ensures failed { (text : List ℕ) → HasLeft self.old (S.left source.old) text → OnErr result (S.left source.new ≡ Some text) }
+        ensures held { length self.new ≤ 256 }
         ensures cause { HasCause (S.faults source.old) (S.faults source.new) result }
     {
         self.fill(source)?;
