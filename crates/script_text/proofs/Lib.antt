@@ -1,9 +1,9 @@
 pub mod Read
 pub mod LinesLemmas
 pub mod WordLemmas
--- pub mod Spelling
--- pub mod SettingsLemmas
+pub mod Spelling
+pub mod SettingsLemmas
 pub mod LastOctet
 pub mod SpelledLines
--- pub mod SpelledScripts
--- pub mod Examples
+pub mod SpelledScripts
+pub mod Examples
