@@ -1,8 +1,7 @@
 -- Parts of octets, and the numbers that words are.
-use Rattle.std.proofs.Common.{◌≡◌, ◌≢◌, ◌⊎◌, inl, inr, ℕ, zero, suc, ◌+◌, ◌-◌, ◌*◌, ◌<◌, ◌≤◌, Bool, true, false, ◌&&◌, nat_eq, nat_le, nat_lt, if◌then◌else◌, cond, List, [], ◌∷◌, length, take, drop, get_or, Option, Some, None, is_some, MatchOption, Bor, refl, sym, ◌∙◌, ap, arith}
+use Rattle.std.proofs.Common.{◌≡◌, ◌≢◌, ◌⊎◌, inl, inr, ℕ, zero, suc, ◌+◌, ◌-◌, ◌*◌, ◌<◌, ◌≤◌, Bool, true, false, ◌&&◌, nat_eq, nat_le, nat_lt, if◌then◌else◌, cond, List, [], ◌∷◌, length, take, drop, get_or, Option, Some, None, is_some, MatchOption, Bor, add-one, refl, sym, ◌∙◌, ap, arith}
 use Rattle.std.specs.List.{position, position_or_len}
 use Rattle.std.proofs.lemmas.Bool.Decides.{nat_tests}
-use Rattle.std.proofs.lemmas.Grind.{common_steps}
 use Rattle.std.proofs.lemmas.List.Quantifiers.{position-Some}
 use Rattle.std.proofs.lemmas.List.Sums.{fails_before_first}
 use Rattle.script_text.specs.Lines.{onto_first}
@@ -30,14 +29,11 @@ before_separator s (b ∷ text) zero within is none = rw is refl
 before_separator s (b ∷ text) (suc i) within is none =
     rw (none 0 (omega arith)) (ap (onto_first b) (before_separator s text i (omega (arith, within)) is (λ k below. none (suc k) (omega (arith, below)))))
 
-behind : (text : List ℕ) (n : ℕ) → drop (suc n) text ≡ take (length text - (n + 1)) (drop (n + 1) text)
-behind text n = grind (arith, common_steps)
-
 pub first_of_parts : (s : ℕ) (text : List ℕ) (i : ℕ) → position (λ b. nat_eq b s) text ≡ Some i
-    → parts_of s text ≡ take i text ∷ parts_of s (take (length text - (i + 1)) (drop (i + 1) text))
+    → parts_of s text ≡ take i text ∷ parts_of s (drop (i + 1) text)
 first_of_parts s text i found =
     let at = position-Some (λ b. nat_eq b s) text i 0 found in
-    before_separator s text i at.0 at.1 at.2 ∙ ap (λ l. take i text ∷ parts_of s l) (behind text i)
+    before_separator s text i at.0 at.1 at.2 ∙ ap (λ n. take i text ∷ parts_of s (drop n text)) (sym (add-one i))
 
 no_separator : (s : ℕ) (text : List ℕ) → ((k : ℕ) → k < length text → nat_eq (get_or text k 0) s ≡ false) → parts_of s text ≡ text ∷ []
 no_separator s [] none = refl

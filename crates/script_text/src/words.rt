@@ -1,5 +1,5 @@
 // The words of a line.
-ghost use Rattle.std.specs.Prelude.{◌≡◌, ◌≤◌, ◌<◌, ◌+◌, ℕ, List, [], ◌∷◌, ◌++◌, Option, MatchOption, length, nat_eq, position};
+ghost use Rattle.std.specs.Prelude.{◌≡◌, ◌≤◌, ◌<◌, ◌+◌, ℕ, List, [], ◌∷◌, ◌++◌, Option, MatchOption, length, drop, nat_eq, position};
 ghost use Rattle.script_text.specs.Forms.{parts_of, words_of, is_end};
 
 /// The first word of a line, and what comes behind the space after it: None where there is no space.
@@ -15,7 +15,7 @@ pub(crate) fn first_part(text: &[u8], separator: u8) -> (&[u8], Option<&[u8]>)
         (λ rest. parts_of separator text.now ≡ result.0.now ∷ parts_of separator rest.now) }
 {
     match find(text, separator) {
-        Some(at) => (&text[..at], Some(&text[at + 1..])),
+        Some(at) => (&text[..at], Some(behind(text, at))),
         None => (text, None),
     }
 }
@@ -25,6 +25,14 @@ fn find(text: &[u8], octet: u8) -> Option<usize>
     ensures { result ≡ position (λ b. nat_eq b octet) text.now }
 {
     text.iter().position(|b| *b == octet)
+}
+
+// What comes behind this octet.
+fn behind(text: &[u8], at: usize) -> &[u8]
+    requires { at < length text.now }
+    ensures { result.now ≡ drop (at + 1) text.now }
+{
+    &text[at + 1..]
 }
 
 /// Whether the line is the word `end`.
