@@ -30,28 +30,28 @@ module _ (past : Past) (traced : IsTraced past) (tells : Bool) (octets : List �
   view = view_of tells octets d i past
 
   -- a call of which nothing is kept
-  module _ (made d' i' : ℕ) (counted : past.made ≤ made) (disk : d ≤ d') (issue : i ≤ i') where
+  module _ (made d' : ℕ) (counted : past.made ≤ made) (disk : d ≤ d') where
     abbrev passed : Past
     passed = record { start = past.start; earlier = past.earlier; calls = past.calls; sent = past.sent; made = made }
 
     still : (since : ℕ) (left : CrashState) → LeftSince past since left → LeftSince passed since left
     still since left was = record { moment = was.moment; later = was.later; had = omega (arith, was.had, counted); leaves = record { image = was.leaves.image; issued = was.leaves.issued; told = was.leaves.told } }
 
-    passed_by : (since : ℕ) (left : CrashState) → LeftSince passed since left → LeftSince past since left ⊎ LeftNow (view_of tells octets d' i' passed) left
+    passed_by : (since : ℕ) (left : CrashState) → LeftSince passed since left → LeftSince past since left ⊎ LeftNow (view_of tells octets d' i passed) left
     passed_by since left was = ⊎_elim later earlier (cases_lt (2 * past.made) was.moment)
       where
         leaves : LeavesAt past was.moment left
         leaves = record { image = was.leaves.image; issued = was.leaves.issued; told = was.leaves.told }
 
-        earlier : was.moment ≤ 2 * past.made → LeftSince past since left ⊎ LeftNow (view_of tells octets d' i' passed) left
+        earlier : was.moment ≤ 2 * past.made → LeftSince past since left ⊎ LeftNow (view_of tells octets d' i passed) left
         earlier before = inl (record { moment = was.moment; later = was.later; had = before; leaves = leaves })
 
-        later : 2 * past.made < was.moment → LeftSince past since left ⊎ LeftNow (view_of tells octets d' i' passed) left
+        later : 2 * past.made < was.moment → LeftSince past since left ⊎ LeftNow (view_of tells octets d' i passed) left
         later behind =
             let now = now_from_leaves past traced was.moment (omega (arith, behind)) tells octets d i left leaves in
             inr (record { image = now.image; issued = now.issued; told = now.told })
 
-    pub reads : Reads view (view_of tells octets d' i' passed)
+    pub reads : Reads view (view_of tells octets d' i passed)
     reads = record {
       call = record {
         run = record {
@@ -59,7 +59,7 @@ module _ (past : Past) (traced : IsTraced past) (tells : Bool) (octets : List �
           goes_on = λ t. t;
           sent = λ t. refl;
           disk_faults = disk;
-          issue_faults = issue;
+          issue_faults = refl;
           later = λ t. omega (arith, counted);
           keeps = λ t since left le was. still since left was;
         };
@@ -70,9 +70,9 @@ module _ (past : Past) (traced : IsTraced past) (tells : Bool) (octets : List �
     }
 
   -- a file call of which this is kept
-  module _ (octets' : List ℕ) (d' i' : ℕ) (disk : d ≤ d') (issue : i ≤ i') where
+  module _ (octets' : List ℕ) (d' : ℕ) (disk : d ≤ d') where
     abbrev changed : Effect → BoardView
-    changed effect = view_of tells octets' d' i' (with_more past effect past.sent)
+    changed effect = view_of tells octets' d' i (with_more past effect past.sent)
 
     all_told : (effect : Effect) → take (state_of past).issued past.sent ≡ past.sent
     all_told effect = all_sent past traced (2 * past.made) (omega arith)
@@ -110,19 +110,19 @@ module _ (past : Past) (traced : IsTraced past) (tells : Bool) (octets : List �
         goes_on = λ t. t;
         sent = λ t. refl;
         disk_faults = disk;
-        issue_faults = issue;
+        issue_faults = refl;
         later = λ t. omega arith;
         keeps = λ t since left le was. keeps past traced effect past.sent (λ n short. refl) since left was;
       };
       nothing_else = λ t since left le was.
           ⊎_elim inl
           (λ more. ⊎_elim (middle effect is since left le)
-          (λ behind. inr (now_from_leaves (with_more past effect past.sent) (traced_more past traced effect past.sent (λ n short. refl) (same_issued (state_of past) effect is ∙ traced.listed)) (2 * past.made + 2) (omega arith) tells octets' d' i' left behind)) more)
+          (λ behind. inr (now_from_leaves (with_more past effect past.sent) (traced_more past traced effect past.sent (λ n short. refl) (same_issued (state_of past) effect is ∙ traced.listed)) (2 * past.made + 2) (omega arith) tells octets' d' i left behind)) more)
           (since_more past traced effect past.sent (λ n short. refl) since left was);
     }
 
   -- a step is issued
-  module _ (sent : Sent) (d' i' : ℕ) (disk : d ≤ d') (issue : i ≤ i') where
+  module _ (sent : Sent) (i' : ℕ) (issue : i ≤ i') where
     abbrev sent_more : List Sent
     sent_more = past.sent ++ sent ∷ []
 
@@ -143,14 +143,14 @@ module _ (past : Past) (traced : IsTraced past) (tells : Bool) (octets : List �
     since_call left (inl within) = record { moment = 2 * past.made + 1; later = omega arith; had = omega arith; leaves = within }
     since_call left (inr behind) = record { moment = 2 * past.made + 2; later = omega arith; had = omega arith; leaves = behind }
 
-    pub issues : Issues sent.step sent.told view (view_of tells octets d' i' (with_more past Issued sent_more))
+    pub issues : Issues sent.step sent.told view (view_of tells octets d i' (with_more past Issued sent_more))
     issues = record {
       tells = λ t. t;
       stops = λ t. inl t;
       octets = λ t. refl;
       images = λ t c. (λ now. subst (λ (s : State). s.images c) (state_more past traced Issued sent_more front) now, λ now. subst (λ (s : State). s.images c) (sym (state_more past traced Issued sent_more front)) now);
       sent = λ t. refl;
-      disk_faults = disk;
+      disk_faults = refl;
       issue_faults = issue;
       later = λ t. omega arith;
       nothing_else = λ t since left le was.
@@ -158,7 +158,7 @@ module _ (past : Past) (traced : IsTraced past) (tells : Bool) (octets : List �
           (λ more. inr (
             since_call left more,
             ⊎_elim (λ within. inl (in_flight left within))
-                (λ behind. inr (now_from_leaves (with_more past Issued sent_more) (traced_more past traced Issued sent_more front (ap (λ n. n + 1) traced.listed ∙ sym (length_push past.sent sent))) (2 * past.made + 2) (omega arith) tells octets d' i' left behind)) more,
+                (λ behind. inr (now_from_leaves (with_more past Issued sent_more) (traced_more past traced Issued sent_more front (ap (λ n. n + 1) traced.listed ∙ sym (length_push past.sent sent))) (2 * past.made + 2) (omega arith) tells octets d i' left behind)) more,
           ))
           (since_more past traced Issued sent_more front since left was);
       keeps = λ t since left le was. keeps past traced Issued sent_more front since left was;

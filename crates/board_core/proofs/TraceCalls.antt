@@ -36,20 +36,20 @@ whole_is_torn place octets file le = record {
     size : length (put_at place octets file) ≡ place + length octets + length (drop (place + length octets) file)
     size = length-append (take place file ++ octets) (drop (place + length octets) file) ∙ ap (λ n. n + length (drop (place + length octets) file)) (length-append (take place file) octets ∙ ap (λ n. n + length octets) front)
 
-module _ (old new : Trace) (tells : Bool) (d i d' i' : ℕ) (disk : d ≤ d') (issue : i ≤ i') where
+module _ (old new : Trace) (tells : Bool) (d d' i : ℕ) (disk : d ≤ d') where
   abbrev was : BoardView
   was = view_of tells old.octets.items d i (past_of old)
 
   abbrev now : BoardView
-  now = view_of tells new.octets.items d' i' (past_of new)
+  now = view_of tells new.octets.items d' i (past_of new)
 
   -- nothing was kept of the call
   module _ (nothing : KeepsNothing old new) where
     pub passes : Reads was now
-    passes = subst (Reads was) (sym same) (reads (past_of old) (is_traced old) tells old.octets.items d i new.calls.made d' i' nothing.later disk issue)
+    passes = subst (Reads was) (sym same) (reads (past_of old) (is_traced old) tells old.octets.items d i new.calls.made d' nothing.later disk)
       where
-        same : now ≡ view_of tells old.octets.items d' i' (record { start = old.start.items; earlier = old.earlier; calls = old.calls.kept.items; sent = old.sent.items; made = new.calls.made })
-        same = λ j. view_of tells (nothing.octets j) d' i' (record { start = nothing.start j; earlier = nothing.earlier j; calls = nothing.calls j; sent = nothing.sent j; made = new.calls.made })
+        same : now ≡ view_of tells old.octets.items d' i (record { start = old.start.items; earlier = old.earlier; calls = old.calls.kept.items; sent = old.sent.items; made = new.calls.made })
+        same = λ j. view_of tells (nothing.octets j) d' i (record { start = nothing.start j; earlier = nothing.earlier j; calls = nothing.calls j; sent = nothing.sent j; made = new.calls.made })
 
     pub writes_nothing : {E : Type 0} (e : E) (place : ℕ) (from : List ℕ) → TakesWrite {E = E} place from was now (Err e)
     writes_nothing e place from = record {
@@ -70,8 +70,8 @@ module _ (old new : Trace) (tells : Bool) (d i d' i' : ℕ) (disk : d ≤ d') (i
 
   -- a file call was kept
   kept_call : (effect : Effect) → IsFileEffect effect → past_of new ≡ with_call effect (past_of old) → IsFileCall was now
-  kept_call effect is same = subst (λ p. IsFileCall was (view_of tells new.octets.items d' i' p)) (sym same)
-      (file_call (past_of old) (is_traced old) tells old.octets.items d i new.octets.items d' i' disk issue effect is)
+  kept_call effect is same = subst (λ p. IsFileCall was (view_of tells new.octets.items d' i p)) (sym same)
+      (file_call (past_of old) (is_traced old) tells old.octets.items d i new.octets.items d' disk effect is)
 
   -- where the board stands after it
   state_same : (effect : Effect) → past_of new ≡ with_call effect (past_of old) → state_of (past_of new) ≡ after (state_of (past_of old)) effect
@@ -136,8 +136,15 @@ module _ (old new : Trace) (tells : Bool) (d i d' i' : ℕ) (disk : d ≤ d') (i
       left : (c : List ℕ) → now.images c → c ≡ old.octets.items
       left c image = image_then Synced same c image ∙ sym old.replayed
 
-  pub issued : (sent : Sent) → new.octets.items ≡ old.octets.items → past_of new ≡ with_step sent (past_of old) → Issues sent.step sent.told was now
-  issued sent octets same = subst (Issues sent.step sent.told was) (sym seen) (issues (past_of old) (is_traced old) tells old.octets.items d i sent d' i' disk issue)
+module _ (old new : Trace) (tells : Bool) (d i i' : ℕ) (issue : i ≤ i') where
+  abbrev before : BoardView
+  before = view_of tells old.octets.items d i (past_of old)
+
+  abbrev after_it : BoardView
+  after_it = view_of tells new.octets.items d i' (past_of new)
+
+  pub issued : (sent : Sent) → new.octets.items ≡ old.octets.items → past_of new ≡ with_step sent (past_of old) → Issues sent.step sent.told before after_it
+  issued sent octets same = subst (Issues sent.step sent.told before) (sym seen) (issues (past_of old) (is_traced old) tells old.octets.items d i sent i' issue)
     where
-      seen : now ≡ view_of tells old.octets.items d' i' (with_step sent (past_of old))
-      seen = λ j. view_of tells (octets j) d' i' (same j)
+      seen : after_it ≡ view_of tells old.octets.items d i' (with_step sent (past_of old))
+      seen = λ j. view_of tells (octets j) d i' (same j)

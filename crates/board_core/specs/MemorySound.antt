@@ -40,6 +40,8 @@ memory_sound board = record {
   };
   only_now = λ tells left was. now_from_leaves past traced was.moment was.later board.tells board.trace.octets.items board.disk_faults board.issue_faults left was.leaves;
   earlier = λ tells since later left le was. record { moment = was.moment; later = omega (arith, le, was.later); had = was.had; leaves = was.leaves };
+  disk_count = board.disk_counted;
+  issue_count = board.issue_counted;
 }
   where
     past : Past

@@ -1,5 +1,5 @@
 //! Octet lists of fixed room.
-ghost use Rattle.std.specs.Prelude.{◌≡◌, ◌+◌, ◌<◌, ◌≤◌, ◌↔◌, [], ◌∷◌, ◌++◌, length, take, IsTrue};
+ghost use Rattle.std.specs.Prelude.{◌≡◌, ◌+◌, ◌<◌, ◌≤◌, ◌↔◌, [], ◌∷◌, ◌++◌, length, take, IsTrue, IsSome, IfSome};
 
 use arrayvec::ArrayVec;
 use std::marker::Model;
@@ -28,6 +28,15 @@ impl<const N: usize> Bytes<N> {
         Bytes {
             octets: ArrayVec::new(),
         }
+    }
+
+    /// These octets, and None where they are more than `N`.
+    pub fn from_slice(from: &[u8]) -> Option<Self>
+        ensures room { IsSome result ↔ (length from.now ≤ N) }
+        ensures octets { IfSome result (λ held. held ≡ from.now) }
+    {
+        let mut held = Bytes::new();
+        if held.extend(from) { Some(held) } else { None }
     }
 
     /// Appends an octet. False where `N` are held, and then nothing changes.

@@ -8,6 +8,7 @@ mod crash;
 mod failures;
 mod file;
 mod leaving;
+mod lists;
 mod memory_board;
 mod memory_sink;
 mod memory_source;
@@ -18,12 +19,13 @@ mod trace;
 
 pub use board::{Board, DiskFailed};
 pub use bytes::Bytes;
+pub use lists::{Community, Octets, Payload, Text, community_of, octets_of, payload_of, text_of};
 pub use memory_board::MemBoard;
 pub use memory_sink::MemSink;
 pub use memory_source::MemSource;
 pub use sink::{Sink, SinkFailed};
 pub use source::{Source, SourceFailed};
-pub use step::{Act, Address, Community, Octets, Payload, Sent, Step, Text, Told};
+pub use step::{Act, Address, Sent, Step, Told};
 
 #[cfg(test)]
 mod crash_tests;

@@ -1,4 +1,6 @@
 // A board in memory.
+ghost use Rattle.board_core.specs.Causes.{IsCount};
+
 use crate::board::{Board, DiskFailed};
 use crate::crash::copies;
 use crate::failures::Failures;
@@ -21,6 +23,8 @@ pub struct MemBoard {
     starved: u64,
     disk_faults: u64,
     issue_faults: u64,
+    ghost disk_counted: { IsCount disk_faults },
+    ghost issue_counted: { IsCount issue_faults },
 }
 
 impl MemBoard {
@@ -106,7 +110,7 @@ impl MemBoard {
 
 impl Board for MemBoard {
     ghost use Rattle.std.specs.Prelude.{◌≡◌, ◌↔◌, ◌⊎◌, ◌+◌, ◌^◌, ◌<◌, ◌≤◌, length, false, IsTrue, IsErr, IfOk, OnOk, OnErr};
-    ghost use Rattle.board_core.specs.declared.step.Told.TheVariants.{Failed};
+    ghost use Rattle.board_core.specs.declared.step.Told.TheVariants.{Done, Failed};
     ghost use Rattle.board_core.specs.Causes.{HasCause, Rose};
     ghost use Rattle.board_core.specs.Board.{Reads, ReadsAt, TakesWrite, Syncs, Issues, HasRoomFor};
     ghost use Rattle.board_core.specs.Failures.{FailsNext, FailsExactly, CountsOne};
@@ -202,6 +206,7 @@ impl Board for MemBoard {
     fn issue(&mut self, step: &Step) -> Told
         ensures issued { Issues step.now result (memory_view self.old) (memory_view self.new) }
         ensures cause { result ≡ Failed → Rose (memory_view self.old).issue_faults (memory_view self.new).issue_faults }
+        ensures uncounted { result ≡ Done → (memory_view self.new).issue_faults ≡ (memory_view self.old).issue_faults }
         ensures fails { FailsExactly (FailsNext self.old.issue_calls) self.old.starved self.new.starved (result ≡ Failed) }
         ensures tells { IsTrue (memory_view self.old).tells → IsTrue (memory_view self.new).tells ⊎ Rose self.old.starved self.new.starved }
         ensures unnoted { self.old.starved < self.new.starved → (memory_view self.new).tells ≡ false }

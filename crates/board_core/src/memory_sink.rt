@@ -1,4 +1,6 @@
 // A sink in memory.
+ghost use Rattle.board_core.specs.Causes.{IsCount};
+
 use crate::sink::{Sink, SinkFailed};
 use std::alloc::Global;
 
@@ -10,6 +12,7 @@ pub struct MemSink {
     next: u64,
     starved: u64,
     faults: u64,
+    ghost counted: { IsCount faults },
 }
 
 impl MemSink {
@@ -56,6 +59,8 @@ impl Sink for MemSink {
     ghost written = { λ sink. Some sink.octets.items };
 
     ghost faults = { λ sink. sink.faults };
+
+    ghost counted = { λ sink. sink.counted };
 
     fn write(&mut self, from: &[u8]) -> Result<(), SinkFailed>
         ensures appended { Appends from.now (Some self.old.octets.items) (Some self.new.octets.items) result }

@@ -1,5 +1,6 @@
 // A source in memory.
 ghost use Rattle.std.specs.Prelude.{◌≤◌, vec_len};
+ghost use Rattle.board_core.specs.Causes.{IsCount};
 
 use crate::failures::Failures;
 use crate::source::{Source, SourceFailed};
@@ -13,6 +14,7 @@ pub struct MemSource {
     failures: Failures,
     faults: u64,
     ghost within: { place ≤ vec_len content },
+    ghost counted: { IsCount faults },
 }
 
 impl MemSource {
@@ -36,7 +38,7 @@ impl MemSource {
 }
 
 impl Source for MemSource {
-    ghost use Rattle.std.specs.Prelude.{◌≡◌, ◌↔◌, min, length, Some, IsErr, IfOk};
+    ghost use Rattle.std.specs.Prelude.{◌≡◌, ◌≤◌, ◌↔◌, min, length, Some, IsErr, IfOk};
     ghost use Rattle.board_core.specs.Causes.{HasCause};
     ghost use Rattle.board_core.specs.Source.{Takes};
     ghost use Rattle.board_core.specs.Failures.{FailsNext, CountsOne};
@@ -46,7 +48,10 @@ impl Source for MemSource {
 
     ghost faults = { λ source. source.faults };
 
+    ghost counted = { λ source. source.counted };
+
     fn read(&mut self, into: &mut [u8]) -> Result<usize, SourceFailed>
+        ensures room { IfOk result (λ count. count ≤ length into.old) }
         ensures taken { Takes (Some (left_in self.old)) (Some (left_in self.new)) result into.new }
         ensures cause { HasCause self.old.faults self.new.faults result }
         ensures fails { IsErr result ↔ FailsNext self.old.failures }

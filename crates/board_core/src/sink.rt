@@ -1,6 +1,6 @@
 // What is written.
 ghost use Rattle.std.specs.Prelude.{ℕ, List, Option};
-ghost use Rattle.board_core.specs.Causes.{HasCause};
+ghost use Rattle.board_core.specs.Causes.{HasCause, IsCount};
 ghost use Rattle.board_core.specs.Source.{Appends};
 
 use thiserror::Error;
@@ -22,4 +22,6 @@ pub trait Sink {
     fn write(&mut self, from: &[u8]) -> Result<(), SinkFailed>
         ensures appended { Appends from.now (written self.old) (written self.new) result }
         ensures cause { HasCause (faults self.old) (faults self.new) result };
+
+    ghost counted: { (sink : Self) → IsCount (faults sink) };
 }

@@ -1,14 +1,5 @@
 // What the program does to the outside, and what it is told of it.
-use crate::bytes::Bytes;
-
-/// A datagram's octets.
-pub type Octets = Bytes<512>;
-/// A journal entry's octets.
-pub type Payload = Bytes<520>;
-/// The text of an alert string, without the 00h that ends it.
-pub type Text = Bytes<61>;
-/// An SNMP community string.
-pub type Community = Bytes<18>;
+use crate::lists::Octets;
 
 /// An action of an event filter other than an alert (IPMI 2.0, table 17-2).
 #[derive(Clone, Copy, Debug, PartialEq, Eq)]

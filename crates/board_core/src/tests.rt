@@ -1,6 +1,7 @@
 // The objects of this crate, each call on its happy path and where it fails, against values worked out by hand.
 use crate::board::{Board, DiskFailed};
 use crate::bytes::Bytes;
+use crate::lists::{community_of, octets_of, payload_of, text_of};
 use crate::memory_board::MemBoard;
 use crate::memory_sink::MemSink;
 use crate::memory_source::MemSource;
@@ -76,6 +77,36 @@ fn octet_lists_end_at_their_room(rt: HostRuntime) {
     list.clear();
     assert!(rt; list.as_slice().is_empty());
     assert_eq!(rt; copy.as_slice(), [1, 2, 3].as_slice());
+}
+
+#[test]
+fn lists_hold_so_many_octets(rt: HostRuntime) -> Result<(), Fail> {
+    // how many octets there are, and whether a datagram, an entry, a text and a community string hold them
+    let cases: [(usize, [bool; 4]); 10] = [
+        (0, [true, true, true, true]),
+        (18, [true, true, true, true]),
+        (19, [true, true, true, false]),
+        (61, [true, true, true, false]),
+        (62, [true, true, false, false]),
+        (511, [true, true, false, false]),
+        (512, [true, true, false, false]),
+        (513, [false, true, false, false]),
+        (520, [false, true, false, false]),
+        (521, [false, false, false, false]),
+    ];
+    for (count, wanted) in cases {
+        let from = vec![in rt.alloc(); 7; count]?;
+        let held = [
+            octets_of(&from).is_some(),
+            payload_of(&from).is_some(),
+            text_of(&from).is_some(),
+            community_of(&from).is_some(),
+        ];
+        assert_eq!(rt; held, wanted, "{count} octets");
+    }
+    let text = text_of(b"a text".as_slice()).ok_or("no text")?;
+    assert_eq!(rt; text.as_slice(), b"a text".as_slice());
+    Ok(())
 }
 
 #[test]

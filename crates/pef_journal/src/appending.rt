@@ -1,15 +1,15 @@
 //! Adding an entry behind the last.
-ghost use Rattle.std.specs.Prelude.{◌≡◌, ◌⊎◌, ◌↔◌, ◌+◌, ◌<◌, ℕ, List, [], ◌∷◌, ◌++◌, length, IsTrue, OnOk, OnErr, IsErrOf};
-ghost use Rattle.board_core.specs.Causes.{Rose};
-ghost use Rattle.board_core.specs.Board.{LeavesOnly, HasRoomFor, Holds, SameSteps, IsFileRun};
+ghost use Rattle.std.specs.Prelude.{◌≡◌, ◌⊎◌, ◌↔◌, ◌+◌, ◌^◌, ◌<◌, ◌≤◌, ℕ, List, [], ◌∷◌, ◌++◌, length, IsTrue, OnOk, OnErr, IsErrOf};
+ghost use Rattle.board_core.specs.Causes.{HasCause, Rose};
+ghost use Rattle.board_core.specs.Board.{Only, LeavesOnly, HasRoomFor, Holds, SameSteps, IsFileRun};
 ghost use Rattle.pef_journal.specs.Image.{frame};
-ghost use Rattle.pef_journal.specs.Journal.{IsAtEnd, HasEnded, HasRoom, StandsForEither};
+ghost use Rattle.pef_journal.specs.Journal.{IsAtEnd, HasEnded, HasRoom, StandsForEither, LeavesTorn};
 
 use crate::JournalFault;
 use crate::journal::Journal;
 use crate::layout::{OPEN, frame_of};
-use crate::syncing::write_synced;
-use board_core::{Board, Payload};
+use crate::writing::write_synced;
+use board_core::{Board, DiskFailed, Payload};
 
 impl Journal {
     /// Adds an entry of 1 to 520 octets behind the last. At `Ok` each crash leaves a file that has it. `Full` where `room`
@@ -33,6 +33,8 @@ impl Journal {
         ensures full { IsErrOf result JournalFault.Full ↔ (HasRoom self.old (length payload.now) → ⊥) }
         ensures unchanged { IsErrOf result JournalFault.Full → (board.new ≡ board.old) × (self.new ≡ self.old) }
         ensures disk { IsErrOf result JournalFault.DiskFault → Rose (B.view board.old).disk_faults (B.view board.new).disk_faults }
+        // a count that rose is told
+        ensures counted { (IsErrOf result JournalFault.DiskFault → ⊥) → (B.view board.new).disk_faults ≡ (B.view board.old).disk_faults }
         ensures other { OnErr result (IsErrOf result JournalFault.Full ⊎ IsErrOf result JournalFault.DiskFault) }
         ensures place { OnOk result (HasRoomFor (B.view board.new) (self.new.place + 1)) }
         ensures stays { HasEnded self.new }
@@ -42,11 +44,42 @@ impl Journal {
         if !self.room(length) {
             return Err(JournalFault::Full);
         }
-        let frame = frame_of(payload);
         // until this is done, behind an open gate anything might stand
-        write_synced(board, self.place + 1, frame.as_slice())?;
-        write_synced(board, self.place, &[OPEN])?;
+        write_behind(board, self.place, payload)?;
+        open_gate(board, self.place)?;
         self.place += 3 + length as u64;
         Ok(())
     }
+}
+
+// Writes what stands behind the gate at a place, up to the next gate, and makes it lasting. The gate stays as it is.
+fn write_behind<B: Board>(board: &mut B, place: u64, payload: &Payload) -> Result<(), DiskFailed>
+    requires place { HasRoomFor (B.view board.old) (place + 1) }
+    requires end { place + 1000 ≤ 2 ^ 40 }
+    ensures written { IsTrue (B.view board.new).tells → OnOk result
+        (Holds (B.view board.old).octets (place + 1) (frame payload.now) (B.view board.new).octets) }
+    ensures lasting { IsTrue (B.view board.new).tells → OnOk result (Only (B.view board.new).octets (B.view board.new).images) }
+    ensures any_moment { IsTrue (B.view board.new).tells →
+        LeavesOnly (B.view board.old) (B.view board.new) (LeavesTorn (place + 1) (length (frame payload.now)) (B.view board.old)) }
+    ensures run { IsFileRun (B.view board.old) (B.view board.new) }
+    ensures cause { HasCause (B.view board.old).disk_faults (B.view board.new).disk_faults result }
+{
+    let frame = frame_of(payload);
+    frame.fits();
+    write_synced(board, place + 1, frame.as_slice())
+}
+
+// Opens the gate at a place, and makes that lasting.
+fn open_gate<B: Board>(board: &mut B, place: u64) -> Result<(), DiskFailed>
+    requires place { HasRoomFor (B.view board.old) place }
+    requires end { place + 1000 ≤ 2 ^ 40 }
+    ensures written { IsTrue (B.view board.new).tells → OnOk result
+        (Holds (B.view board.old).octets place (165 ∷ []) (B.view board.new).octets) }
+    ensures lasting { IsTrue (B.view board.new).tells → OnOk result (Only (B.view board.new).octets (B.view board.new).images) }
+    ensures any_moment { IsTrue (B.view board.new).tells →
+        LeavesOnly (B.view board.old) (B.view board.new) (LeavesTorn place 1 (B.view board.old)) }
+    ensures run { IsFileRun (B.view board.old) (B.view board.new) }
+    ensures cause { HasCause (B.view board.old).disk_faults (B.view board.new).disk_faults result }
+{
+    write_synced(board, place, &[OPEN])
 }

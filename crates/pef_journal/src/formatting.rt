@@ -1,13 +1,14 @@
 //! Making a file that stands for no entries, and telling whether there is one.
 ghost use Rattle.std.specs.Prelude.{◌≡◌, ◌⊎◌, ◌+◌, ◌≤◌, ℕ, true, false, List, [], ◌∷◌, ◌++◌, length, take, drop, IsTrue, IfOk, OnOk};
 ghost use Rattle.board_core.specs.Causes.{HasCause};
-ghost use Rattle.board_core.specs.Board.{Only, LeavesOnly, SameSteps, IsFileRun, Reads, SyncsFirst, NeverSynced};
+ghost use Rattle.board_core.specs.Board.{Only, LeavesOnly, SameSteps, IsFileRun, Reads, Holds, SyncsFirst, NeverSynced};
 ghost use Rattle.pef_journal.specs.Format.{body, MayBeMarked, IsUnmarked, LeavesUnformatted};
 ghost use Rattle.pef_journal.specs.Image.{header, IsFormatted, Stands, HasSettingsLength, KindIs, IsEmptyOrUnformatted};
-ghost use Rattle.pef_journal.specs.Journal.{LeavesAsRead};
+ghost use Rattle.pef_journal.specs.Journal.{LeavesAsRead, LeavesTorn};
 
 use crate::layout::{CLOSED, OPEN, SETTINGS, head_of, settings_length};
-use crate::syncing::{synced_length, write_synced};
+use crate::syncing::synced_length;
+use crate::writing::write_synced;
 use board_core::{Board, Bytes, DiskFailed};
 
 /// Makes a file that isn't formatted stand for no entries, with these settings, which have the kind's length. What lies
@@ -46,6 +47,19 @@ fn clear_mark<B: Board>(board: &mut B) -> Result<(), DiskFailed>
     if !may_be_marked(board)? {
         return Ok(());
     }
+    close_mark(board)
+}
+
+// Puts 00h in place of octet 0, which may be all of the file, and makes that lasting.
+fn close_mark<B: Board>(board: &mut B) -> Result<(), DiskFailed>
+    ensures written { IsTrue (B.view board.new).tells → OnOk result
+        (Holds (B.view board.old).octets 0 (0 ∷ []) (B.view board.new).octets) }
+    ensures lasting { IsTrue (B.view board.new).tells → OnOk result (Only (B.view board.new).octets (B.view board.new).images) }
+    ensures any_moment { IsTrue (B.view board.new).tells →
+        LeavesOnly (B.view board.old) (B.view board.new) (LeavesTorn 0 1 (B.view board.old)) }
+    ensures run { IsFileRun (B.view board.old) (B.view board.new) }
+    ensures cause { HasCause (B.view board.old).disk_faults (B.view board.new).disk_faults result }
+{
     write_synced(board, 0, &[CLOSED])
 }
 

@@ -10,6 +10,7 @@ mod layout;
 mod opening;
 mod reading;
 mod syncing;
+mod writing;
 
 pub use fault::JournalFault;
 pub use formatting::{format, kind_of};

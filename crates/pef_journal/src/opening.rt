@@ -38,6 +38,8 @@ impl Journal {
         ensures is_unformatted { IsTrue (B.view board.new).tells →
             (IsForKind kind (B.view board.old).octets → ⊥) → IsErr result }
         ensures disk { IsErrOf result JournalFault.DiskFault → Rose (B.view board.old).disk_faults (B.view board.new).disk_faults }
+        // a count that rose is told
+        ensures counted { (IsErrOf result JournalFault.DiskFault → ⊥) → (B.view board.new).disk_faults ≡ (B.view board.old).disk_faults }
         ensures other { OnErr result (IsErrOf result JournalFault.NotFormatted ⊎ IsErrOf result JournalFault.DiskFault) }
         ensures place { IfOk result (λ journal. HasRoomFor (B.view board.new) (journal.place + 1)) }
         ensures begins { IfOk result (λ journal. HasEnded journal → ⊥) }

@@ -35,6 +35,8 @@ impl Journal {
         ensures other { OnErr result (IsErrOf result (JournalFault.Corrupt self.old.place)
             ⊎ IsErrOf result JournalFault.DiskFault) }
         ensures disk { IsErrOf result JournalFault.DiskFault → Rose (B.view board.old).disk_faults (B.view board.new).disk_faults }
+        // a count that rose is told
+        ensures counted { (IsErrOf result JournalFault.DiskFault → ⊥) → (B.view board.new).disk_faults ≡ (B.view board.old).disk_faults }
         ensures ended { IfOk result (λ more. (more ≡ false) ↔ HasEnded self.new) }
         ensures grows { IfOk result (λ more. more ≡ true → self.old.place < self.new.place) }
         ensures stays { OnErr result (self.new ≡ self.old) }

@@ -1,8 +1,8 @@
-//! How each work on a file begins, and how octets are made to last.
-ghost use Rattle.std.specs.Prelude.{◌≡◌, ◌⊎◌, ◌+◌, ◌^◌, ◌≤◌, length, IsTrue, IfOk, OnOk};
+//! How each work on a file begins.
+ghost use Rattle.std.specs.Prelude.{◌≡◌, ◌⊎◌, length, IsTrue, IfOk, OnOk, OnErr};
 ghost use Rattle.board_core.specs.Causes.{HasCause};
-ghost use Rattle.board_core.specs.Board.{Only, Holds, HasRoomFor, LeavesOnly, IsFileRun, SyncsFirst, NeverSynced};
-ghost use Rattle.pef_journal.specs.Journal.{LeavesAsRead, LeavesTorn};
+ghost use Rattle.board_core.specs.Board.{Only, IsFileRun, SyncsFirst, NeverSynced};
+ghost use Rattle.pef_journal.specs.Journal.{LeavesAsRead};
 
 use board_core::{Board, DiskFailed};
 
@@ -20,21 +20,19 @@ pub fn synced_length<B: Board>(board: &mut B) -> Result<u64, DiskFailed>
     ensures run { IsFileRun (B.view board.old) (B.view board.new) }
     ensures cause { HasCause (B.view board.old).disk_faults (B.view board.new).disk_faults result }
 {
-    board.sync()?;
+    sync_first(board)?;
     board.len()
 }
 
-/// Writes octets from a place on, and makes them lasting.
-pub fn write_synced<B: Board>(board: &mut B, place: u64, octets: &[u8]) -> Result<(), DiskFailed>
-    requires place { HasRoomFor (B.view board.old) place }
-    requires end { place + length octets.now ≤ 2 ^ 40 }
-    ensures written { IsTrue (B.view board.new).tells → OnOk result (Holds (B.view board.old).octets place octets.now (B.view board.new).octets) }
+// Makes what a read gives lasting.
+fn sync_first<B: Board>(board: &mut B) -> Result<(), DiskFailed>
+    ensures octets { IsTrue (B.view board.new).tells → (B.view board.new).octets ≡ (B.view board.old).octets }
     ensures lasting { IsTrue (B.view board.new).tells → OnOk result (Only (B.view board.new).octets (B.view board.new).images) }
-    ensures any_moment { IsTrue (B.view board.new).tells →
-        LeavesOnly (B.view board.old) (B.view board.new) (LeavesTorn place (length octets.now) (B.view board.old)) }
+    ensures never { IsTrue (B.view board.new).tells → OnErr result (NeverSynced (B.view board.old) (B.view board.new)) }
+    ensures ok { IsTrue (B.view board.new).tells →
+        OnOk result (SyncsFirst (B.view board.old) (B.view board.new) (LeavesAsRead (B.view board.old))) }
     ensures run { IsFileRun (B.view board.old) (B.view board.new) }
     ensures cause { HasCause (B.view board.old).disk_faults (B.view board.new).disk_faults result }
 {
-    board.write_at(place, octets)?;
     board.sync()
 }

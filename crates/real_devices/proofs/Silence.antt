@@ -1,5 +1,5 @@
 -- What a board that tells nothing has to keep: its counts alone.
-use Rattle.std.proofs.Common.{◌≤◌, ℕ, List, Result, inl, arith}
+use Rattle.std.proofs.Common.{◌≤◌, ℕ, List, Result, inl, refl}
 use Rattle.std.proofs.lemmas.Bool.{false≢true}
 use Rattle.board_core.specs.Board.{IsFileCall, Reads, TakesWrite, Syncs, Issues}
 use Rattle.board_core.specs.declared.step.Step.{Step}
@@ -13,7 +13,7 @@ silent_call before now issue_faults later = record {
     goes_on = λ tells. tells;
     sent = λ tells. absurd (false≢true tells);
     disk_faults = later;
-    issue_faults = omega arith;
+    issue_faults = refl;
     later = λ tells. absurd (false≢true tells);
     keeps = λ tells. absurd (false≢true tells);
   };
@@ -51,7 +51,7 @@ silent_issue step told disk_faults before now later = record {
   octets = λ tells. absurd (false≢true tells);
   images = λ tells. absurd (false≢true tells);
   sent = λ tells. absurd (false≢true tells);
-  disk_faults = omega arith;
+  disk_faults = refl;
   issue_faults = later;
   later = λ tells. absurd (false≢true tells);
   nothing_else = λ tells. absurd (false≢true tells);

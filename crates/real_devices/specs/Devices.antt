@@ -10,7 +10,7 @@ abbrev pub board_view : {R : Type 0} → FileBoard R → BoardView
 board_view board = silent_view board.disk_faults board.issue_faults
 
 abbrev pub board_sound : {R : Type 0} → (board : FileBoard R) → IsSound (board_view board)
-board_sound board = silent_sound board.disk_faults board.issue_faults
+board_sound board = silent_sound board.disk_faults board.issue_faults board.disk_counted board.issue_counted
 
 abbrev pub source_faults : FileSource → ℕ
 source_faults source = source.faults

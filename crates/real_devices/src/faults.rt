@@ -1,6 +1,6 @@
 // Counts of faults.
-ghost use Rattle.std.specs.Prelude.{◌≡◌, ◌↔◌, ◌≤◌, Ok, IfOk, IsErr, OnOk};
-ghost use Rattle.board_core.specs.Causes.{HasCause, Rose};
+ghost use Rattle.std.specs.Prelude.{◌≡◌, ◌↔◌, ◌≤◌, Ok, IfOk, IsErr};
+ghost use Rattle.board_core.specs.Causes.{HasCause, Rose, IsCount};
 
 use std::io;
 
@@ -8,6 +8,7 @@ use std::io;
 pub fn raise(faults: &mut u64)
     ensures rose { Rose faults.old faults.new }
     ensures later { faults.old ≤ faults.new }
+    ensures count { IsCount faults.new }
 {
     *faults = faults.saturating_add(1);
 }
@@ -17,7 +18,7 @@ pub fn counted<T: Drop, E: Drop>(answer: io::Result<T>, faults: &mut u64, fault:
     ensures value { IfOk answer (λ value. result ≡ Ok value) }
     ensures failed { IsErr result ↔ IsErr answer }
     ensures cause { HasCause faults.old faults.new result }
-    ensures same { OnOk result (faults.new ≡ faults.old) }
+    ensures count { IsCount faults.old → IsCount faults.new }
 {
     match answer {
         Ok(value) => Ok(value),

@@ -1,4 +1,6 @@
 // A state file and its plant as a board.
+ghost use Rattle.board_core.specs.Causes.{IsCount};
+
 use crate::faults::{counted, raise};
 use crate::plant::Plant;
 use crate::sender::Sender;
@@ -20,6 +22,8 @@ pub struct FileBoard<'a, R> {
     sender: Sender,
     disk_faults: u64,
     issue_faults: u64,
+    ghost disk_counted: { IsCount disk_faults },
+    ghost issue_counted: { IsCount issue_faults },
 }
 
 impl<'a, R: Files<File = File> + Net> FileBoard<'a, R> {

@@ -1,5 +1,6 @@
 // A file as a source.
 ghost use Rattle.std.specs.Prelude.{None};
+ghost use Rattle.board_core.specs.Causes.{IsCount};
 
 use crate::faults::counted;
 use board_core::{Source, SourceFailed};
@@ -13,6 +14,7 @@ use std::{fs, io};
 pub struct FileSource {
     file: File,
     faults: u64,
+    ghost counted: { IsCount faults },
 }
 
 impl FileSource {
@@ -36,6 +38,8 @@ impl Source for FileSource {
     ghost left = { λ source. None };
 
     ghost faults = { source_faults };
+
+    ghost counted = { λ source. source.counted };
 
     fn read(&mut self, into: &mut [u8]) -> Result<usize, SourceFailed> {
         counted(self.file.read(into), &mut self.faults, SourceFailed)

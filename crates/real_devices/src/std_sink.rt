@@ -1,5 +1,6 @@
 // A stream as a sink.
 ghost use Rattle.std.specs.Prelude.{◌≡◌, None};
+ghost use Rattle.board_core.specs.Causes.{IsCount};
 
 use crate::faults::counted;
 use board_core::{Sink, SinkFailed};
@@ -10,6 +11,7 @@ use std::io::Write;
 pub struct StdSink<W> {
     stream: W,
     faults: u64,
+    ghost counted: { IsCount faults },
 }
 
 impl<W: Write + Drop> StdSink<W> {
@@ -29,6 +31,8 @@ impl<W: Write + Drop> Sink for StdSink<W> {
     ghost written = { λ sink. None };
 
     ghost faults = { sink_faults };
+
+    ghost counted = { λ sink. sink.counted };
 
     fn write(&mut self, from: &[u8]) -> Result<(), SinkFailed> {
         counted(self.stream.write_all(from), &mut self.faults, SinkFailed)

@@ -173,23 +173,27 @@ head_is : (word line : List ℕ) (head : Head) (id count : ℕ) → head_of word
 head_is word line head id count has id_is count_is =
     subst (λ n. SpellsHead word n count line) id_is (subst (λ n. SpellsHead word head.id n line) count_is (head_spelled word line head has))
 
+whole_text : {I : Type 0} (word : List ℕ) (item_of : List ℕ → Option I) (id count left : ℕ) (items : List I) (line : List ℕ) (lines : List (List ℕ)) (text : List ℕ)
+    → lines_of text ≡ line ∷ lines → SpellsHead word id count line → left ≡ count → IsWhole item_of lines left items → IsWholeScript word item_of id count items text
+whole_text word item_of id count left items line lines text are head all w = record {
+  head = line;
+  between = w.between;
+  last = w.last;
+  behind = w.behind;
+  lines = are ∙ ap (λ l. line ∷ l) w.are;
+  is_head = head;
+  are_items = w.are_items;
+  counted = w.counted ∙ all;
+  ended = w.ended;
+}
+
 whole_lines : {I : Type 0} (word : List ℕ) (item_of : List ℕ → Option I) (o : Option Head) (id count : ℕ) (items : List I) (line : List ℕ) (lines : List (List ℕ)) (text : List ℕ)
     → lines_of text ≡ line ∷ lines → head_of word line ≡ o → said_by item_of o lines ≡ Some (said id count items None) → IsWholeScript word item_of id count items text
 whole_lines {I} word item_of (Some head) id count items line lines text are has says =
     let is : told head (given item_of lines head.count 2) ≡ said id count items None = cc in
-    let count_is : head.count ≡ count = ap (λ (s : Said I). s.count) is in
-    let w = given_whole item_of lines head.count 2 items (ap (λ (s : Said I). s.given) is) in
-    record {
-      head = line;
-      between = w.between;
-      last = w.last;
-      behind = w.behind;
-      lines = are ∙ ap (λ l. line ∷ l) w.are;
-      is_head = head_is word line head id count has (ap (λ (s : Said I). s.id) is) count_is;
-      are_items = w.are_items;
-      counted = w.counted ∙ count_is;
-      ended = w.ended;
-    }
+    let all : head.count ≡ count = ap (λ (s : Said I). s.count) is in
+    whole_text word item_of id count head.count items line lines text are (head_is word line head id count has (ap (λ (s : Said I). s.id) is) all) all
+    (given_whole item_of lines head.count 2 items (ap (λ (s : Said I). s.given) is))
 whole_lines word item_of None id count items line lines text are has says = absurd (cc says)
 
 pub says_whole : {I : Type 0} (word : List ℕ) (item_of : List ℕ → Option I) (text : List ℕ) (id count : ℕ) (items : List I) → said_of word item_of text ≡ Some (said id count items None)
@@ -212,25 +216,27 @@ whole_says word item_of text id count items w =
     ∙ ap (λ n. Some (told (head_at id count) (given item_of lines n 2))) (sym w.counted)
     ∙ ap (λ g. Some (told (head_at id count) g)) (whole_given item_of w.between items w.last w.behind 2 w.are_items w.ended)
 
+bad_text : {I : Type 0} (word : List ℕ) (item_of : List ℕ → Option I) (id count left : ℕ) (items : List I) (number : ℕ) (line : List ℕ) (lines : List (List ℕ)) (text : List ℕ)
+    → lines_of text ≡ line ∷ lines → SpellsHead word id count line → left ≡ count → IsBad item_of lines left items → number ≡ 2 + length items → HasBadLine word item_of id count items number text
+bad_text word item_of id count left items number line lines text are head all w number_is = record {
+  head = line;
+  between = w.between;
+  behind = w.behind;
+  lines = are ∙ ap (λ l. line ∷ l) w.are;
+  is_head = head;
+  are_items = w.are_items;
+  within = let within = w.within in omega (arith, within, all);
+  is_bad = subst (λ n. IsBadNext item_of (length items) n w.behind) all w.is_bad;
+  number_is = omega (arith, number_is);
+}
+
 bad_lines : {I : Type 0} (word : List ℕ) (item_of : List ℕ → Option I) (o : Option Head) (id count : ℕ) (items : List I) (number : ℕ) (line : List ℕ) (lines : List (List ℕ)) (text : List ℕ)
     → lines_of text ≡ line ∷ lines → head_of word line ≡ o → said_by item_of o lines ≡ Some (said id count items (Some number)) → HasBadLine word item_of id count items number text
 bad_lines {I} word item_of (Some head) id count items number line lines text are has says =
     let is : told head (given item_of lines head.count 2) ≡ said id count items (Some number) = cc in
-    let count_is : head.count ≡ count = ap (λ (s : Said I). s.count) is in
+    let all : head.count ≡ count = ap (λ (s : Said I). s.count) is in
     let both = given_bad item_of lines head.count 2 number items (ap (λ (s : Said I). s.given) is) in
-    let w = both.0 in
-    let number_is = both.1 in
-    record {
-      head = line;
-      between = w.between;
-      behind = w.behind;
-      lines = are ∙ ap (λ l. line ∷ l) w.are;
-      is_head = head_is word line head id count has (ap (λ (s : Said I). s.id) is) count_is;
-      are_items = w.are_items;
-      within = let within = w.within in omega (arith, within, count_is);
-      is_bad = subst (λ n. IsBadNext item_of (length items) n w.behind) count_is w.is_bad;
-      number_is = omega (arith, number_is);
-    }
+    bad_text word item_of id count head.count items number line lines text are (head_is word line head id count has (ap (λ (s : Said I). s.id) is) all) all both.0 both.1
 bad_lines word item_of None id count items number line lines text are has says = absurd (cc says)
 
 pub says_bad : {I : Type 0} (word : List ℕ) (item_of : List ℕ → Option I) (text : List ℕ) (id count : ℕ) (items : List I) (number : ℕ) → said_of word item_of text ≡ Some (said id count items (Some number))

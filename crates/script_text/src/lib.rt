@@ -21,5 +21,5 @@ pub use settings::{SettingsOctets, read_settings, settings_of};
 pub use whole::{TextFault, read_text};
 pub use words::{first_word, is_end};
 
-
-
+#[cfg(test)]
+mod tests;

@@ -65,11 +65,7 @@ impl Reader {
         }
         self.at = 0;
         self.end = 0;
-        let count = source.read(&mut self.chunk)?;
-        // A source that tells nothing may answer any count: an impossible one counts as the end.
-        if count <= 256 {
-            self.end = count;
-        }
+        self.end = source.read(&mut self.chunk)?;
         Ok(())
     }
 

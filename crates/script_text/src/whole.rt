@@ -33,8 +33,7 @@ pub fn read_text<S: Source>(alloc: Global, source: &mut S) -> Result<Option<Vec<
             Ok(count) => count,
             Err(_) => return Err(TextFault::Source),
         };
-        // A source that tells nothing may answer any count: an impossible one counts as the end.
-        if count == 0 || count > 256 {
+        if count == 0 {
             return Ok(Some(text));
         }
         if count > TEXT_LIMIT - text.len() {

@@ -10,11 +10,11 @@ returns-then-is_listed-2-clause-issued c =
     let old = c.args.self.now in
     let sent : Sent = record { step = c.args.step.now; told = c.if-is_listed.told } in
     let kept = c.in-Ok.ensures.kept ∙ ap (λ (s : Step). with_step (record { step = s; told = c.if-is_listed.told }) (past_of old.trace)) c.copy.ensures in
-    issued old.trace c.issue.new.self old.tells old.disk_faults old.issue_faults old.disk_faults c.saturating_add-self-then-is_listed-2.result (omega arith) (omega (arith, c.saturating_add-self-then-is_listed-2.ensures)) sent c.in-Ok.ensures.octets kept
+    issued old.trace c.issue.new.self old.tells old.disk_faults old.issue_faults c.saturating_add-self-then-is_listed-2.result (omega (arith, c.saturating_add-self-then-is_listed-2.ensures)) sent c.in-Ok.ensures.octets kept
 
 pub returns-else-is_listed-2-clause-issued : goal.returns-else-is_listed-2-clause-issued
 returns-else-is_listed-2-clause-issued c =
     let old = c.args.self.now in
     let sent : Sent = record { step = c.args.step.now; told = c.if-is_listed.told } in
     let kept = c.in-Ok.ensures.kept ∙ ap (λ (s : Step). with_step (record { step = s; told = c.if-is_listed.told }) (past_of old.trace)) c.copy.ensures in
-    issued old.trace c.issue.new.self old.tells old.disk_faults old.issue_faults old.disk_faults old.issue_faults (omega arith) (omega arith) sent c.in-Ok.ensures.octets kept
+    issued old.trace c.issue.new.self old.tells old.disk_faults old.issue_faults old.issue_faults (omega arith) sent c.in-Ok.ensures.octets kept

@@ -6,12 +6,12 @@ use Rattle.board_core.proofs.memory_board.MemBoardBoard.read_at.Goals as goal
 pub returns-then-count-clause-same : goal.returns-then-count-clause-same
 returns-then-count-clause-same c =
     let old = c.args.self.now in
-    passes old.trace c.pass.new.self old.tells old.disk_faults old.issue_faults c.saturating_add-self.result old.issue_faults (omega (arith, c.saturating_add-self.ensures)) (omega arith) c.pass.ensures.nothing
+    passes old.trace c.pass.new.self old.tells old.disk_faults c.saturating_add-self.result old.issue_faults (omega (arith, c.saturating_add-self.ensures)) c.pass.ensures.nothing
 
 pub returns-clause-same : goal.returns-clause-same
 returns-clause-same c =
     let old = c.args.self.now in
-    passes old.trace c.pass.new.self old.tells old.disk_faults old.issue_faults old.disk_faults old.issue_faults (omega arith) (omega arith) c.pass.ensures.nothing
+    passes old.trace c.pass.new.self old.tells old.disk_faults old.disk_faults old.issue_faults (omega arith) c.pass.ensures.nothing
 
 pub returns-clause-octets : goal.returns-clause-octets
 returns-clause-octets c = λ tells.

@@ -1,4 +1,4 @@
-use Rattle.std.proofs.Common.{Result, Ok, Err, OnErr, [], ◌∷◌, length, Some, arith, sym, ◌∙◌, ap, subst}
+use Rattle.std.proofs.Common.{Result, Ok, Err, OnErr, [], ◌∷◌, length, Some, refl, sym, ◌∙◌, ap, subst}
 use Rattle.script_text.specs.Lines.{lines_of, HasNoEnd}
 use Rattle.script_text.specs.Reading.{GivesOctet, FailsWithin}
 use Rattle.script_text.proofs.Read.{IsReading}
@@ -13,7 +13,7 @@ pub octets-init : goal.octets-init
 octets-init g c = record {
   no_end = subst HasNoEnd (sym c.clear.ensures) tt;
   reading = λ text left. subst (IsReading text c.args.self.now (g.S.Source.left c.args.source.now)) (sym c.clear.ensures) (reading_start text c.args.self.now (g.S.Source.left c.args.source.now) left);
-  faults = omega arith;
+  faults = refl;
 }
 
 pub returns-then-as_slice-eq0-clause-found : goal.returns-then-as_slice-eq0-clause-found
@@ -56,7 +56,7 @@ octets-preserved g c =
           let after = g.S.Source.left c.next.new.source in
           let gives = subst (GivesOctet r.rest c.next.new.self after) c.in-Some.is (c.in_ok-next.ensures.octet r.rest r.left) in
           subst (IsReading text c.next.new.self after) (sym pushed) (reading_octet text c.octets.line c.octets.self c.next.new.self (g.S.Source.left c.octets.source) after c.in-Some.octet r gives);
-      faults = omega (arith, c.octets.invariant.faults, c.next.ensures.cause.later);
+      faults = c.in_ok-next.ensures.cause.same ∙ c.octets.invariant.faults;
     }
 
 pub returns-in_err-next-clause-failed : goal.returns-in_err-next-clause-failed

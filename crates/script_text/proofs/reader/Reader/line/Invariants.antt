@@ -1,4 +1,4 @@
-use Rattle.std.proofs.Common.{◌≤◌, ℕ, List, length, ◌-◌}
+use Rattle.std.proofs.Common.{◌≡◌, ℕ, List, length, ◌-◌}
 use Rattle.script_text.specs.Lines.{HasNoEnd}
 use Rattle.script_text.specs.Reading.{HasLeft}
 use Rattle.script_text.proofs.Read.{IsReading}
@@ -8,7 +8,7 @@ abbrev pub invariant-octets : goal.invariant-octets
 invariant-octets g l = record {
   no_end : HasNoEnd l.line;
   reading : (text : List ℕ) → HasLeft l.fn.self (g.S.Source.left l.fn.source) text → IsReading text l.self (g.S.Source.left l.source) l.line;
-  faults : g.S.Source.faults l.fn.source ≤ g.S.Source.faults l.source;
+  faults : g.S.Source.faults l.source ≡ g.S.Source.faults l.fn.source;
 }
 
 abbrev pub decreases-octets : goal.decreases-octets
