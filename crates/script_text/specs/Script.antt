@@ -1,6 +1,6 @@
 -- What a script says: its head, the items that its lines give, and its first bad line. A line between the head and the end is
 -- the machine's: `item_of` says which item it gives, if any.
-use Rattle.std.specs.Prelude.{◌≡◌, ◌≢◌, ⊤, ℕ, zero, suc, ◌+◌, ◌≤◌, nat_eq, nat_le, Bool, true, false, ◌&&◌, bytes_eq, if◌then◌else◌, List, [], ◌∷◌, ◌++◌, length, map, Option, Some, None}
+use Rattle.std.specs.Prelude.{◌≡◌, ◌≢◌, ⊤, ℕ, zero, suc, ◌+◌, ◌≤◌, nat_le, true, bytes_eq, if◌then◌else◌, List, [], ◌∷◌, ◌++◌, length, map, Option, Some, None}
 use Rattle.script_text.specs.Lines.{lines_of, line_limit}
 use Rattle.script_text.specs.Forms.{words_of, is_end, octets_exactly, count_of, number_of}
 use Rattle.script_text.specs.declared.head.Head.{Head}

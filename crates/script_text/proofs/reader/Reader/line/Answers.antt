@@ -1,4 +1,4 @@
-use Rattle.std.proofs.Common.{Result, Ok, Err, OnErr, [], ◌∷◌, length, Some, refl, sym, ◌∙◌, ap, subst}
+use Rattle.std.proofs.Common.{Result, Ok, Err, OnErr, length, Some, refl, sym, ◌∙◌, ap, subst}
 use Rattle.script_text.specs.Lines.{lines_of, HasNoEnd}
 use Rattle.script_text.specs.Reading.{GivesOctet, FailsWithin}
 use Rattle.script_text.proofs.Read.{IsReading}
