@@ -2,6 +2,7 @@
 #![tactic(auto)]
 
 mod addresses;
+mod ends;
 mod head;
 mod laws;
 mod numbers;

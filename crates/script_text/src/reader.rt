@@ -1,9 +1,10 @@
 // A reader of lines over a source.
-ghost use Rattle.std.specs.Prelude.{◌≡◌, ◌≤◌, ◌<◌, ℕ, List, [], Option, Some, IfOk, OnOk, OnErr, length};
+ghost use Rattle.std.specs.Prelude.{◌≡◌, ◌≢◌, ◌≤◌, ◌<◌, ℕ, List, [], Option, Some, IfOk, OnOk, OnErr, length};
 ghost use Rattle.board_core.specs.Causes.{HasCause};
 ghost use Rattle.script_text.specs.Lines.{line_limit, without_last};
 ghost use Rattle.script_text.specs.Reading.{HasLeft, GivesOctet, Finds, FailsWithin};
 
+use crate::ends::without_last;
 use crate::head::LINE_LIMIT;
 use board_core::{Bytes, Source, SourceFailed};
 use std::marker::Model;
@@ -102,12 +103,7 @@ impl Reader {
         line.clear();
         'octets: loop {
             match self.next(source)? {
-                None => {
-                    if line.as_slice().len() == 0 {
-                        return Ok(Found::End);
-                    }
-                    return Ok(fits(line));
-                }
+                None => return Ok(last(line)),
                 Some(b'\n') => {
                     drop_return(line);
                     return Ok(fits(line));
@@ -135,17 +131,22 @@ fn fits(line: &LineBuffer) -> Found
     }
 }
 
+// What comes at the end of the text: a last line that has no end of its own, or nothing.
+fn last(line: &LineBuffer) -> Found
+    ensures line { result ≡ Found.Line → (line.now ≢ []) × (length line.now ≤ line_limit) }
+    ensures long { result ≡ Found.TooLong → line_limit < length line.now }
+    ensures none { result ≡ Found.End → line.now ≡ [] }
+{
+    if line.as_slice().len() == 0 {
+        return Found::End;
+    }
+    fits(line)
+}
+
 // Lets a 0Dh at the end go.
 fn drop_return(line: &mut LineBuffer)
     ensures { line.new ≡ without_last 13 line.old }
 {
-    let octets = line.as_slice();
-    let count = octets.len();
-    if count == 0 {
-        return;
-    }
-    if octets[count - 1] != b'\r' {
-        return;
-    }
-    line.truncate(count - 1);
+    let count = without_last(line.as_slice(), b'\r').len();
+    line.truncate(count);
 }
