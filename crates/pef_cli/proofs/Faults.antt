@@ -1,78 +1,49 @@
--- Which fault has which status.
-use Rattle.std.proofs.Common.{◌≡◌, ◌≢◌, ◌⊎◌, inl, inr, [], ◌∷◌, ⊎_elim, refl, ap, subst, arith}
+-- Which fault ends a call of `init` how.
+use Rattle.std.proofs.Common.{◌≡◌, ◌≢◌, ℕ, refl}
+use Rattle.report_line.specs.declared.ending.Ending.{Ending}
+use Rattle.report_line.specs.declared.ending.Ending.TheVariants as ending
 use Rattle.pef_cli.specs.declared.init_fault.InitFault.{InitFault}
 use Rattle.pef_cli.specs.declared.init_fault.InitFault.TheVariants.{Disk, Formatted, Input, Settings, Memory}
-use Rattle.pef_cli.specs.Init.{status_of}
-use Rattle.script_run.specs.Status.{IsOneOf}
+use Rattle.pef_cli.specs.Init.{fault_ending, IsInitEnd}
 
-pub not_zero : (fault : InitFault) → status_of fault ≢ 0
-not_zero Settings e = omega (arith, e)
-not_zero Input e = omega (arith, e)
-not_zero Disk e = omega (arith, e)
-not_zero Memory e = omega (arith, e)
-not_zero Formatted e = omega (arith, e)
+pub at_settings : (fault : InitFault) → fault_ending fault ≡ ending.Settings → fault ≡ Settings
+at_settings Settings e = refl
+at_settings Input e = absurd (cc e)
+at_settings Disk e = absurd (cc e)
+at_settings Memory e = absurd (cc e)
+at_settings Formatted e = absurd (cc e)
 
-pub not_eight : (fault : InitFault) → status_of fault ≢ 8
-not_eight Settings e = omega (arith, e)
-not_eight Input e = omega (arith, e)
-not_eight Disk e = omega (arith, e)
-not_eight Memory e = omega (arith, e)
-not_eight Formatted e = omega (arith, e)
+pub at_input : (fault : InitFault) → fault_ending fault ≡ ending.Input → fault ≡ Input
+at_input Settings e = absurd (cc e)
+at_input Input e = refl
+at_input Disk e = absurd (cc e)
+at_input Memory e = absurd (cc e)
+at_input Formatted e = absurd (cc e)
 
-pub at_four : (fault : InitFault) → status_of fault ≡ 4 → fault ≡ Settings
-at_four Settings e = refl
-at_four Input e = absurd (omega (arith, e))
-at_four Disk e = absurd (omega (arith, e))
-at_four Memory e = absurd (omega (arith, e))
-at_four Formatted e = absurd (omega (arith, e))
+pub at_disk : (fault : InitFault) → fault_ending fault ≡ ending.Disk → fault ≡ Disk
+at_disk Settings e = absurd (cc e)
+at_disk Input e = absurd (cc e)
+at_disk Disk e = refl
+at_disk Memory e = absurd (cc e)
+at_disk Formatted e = absurd (cc e)
 
-pub at_six : (fault : InitFault) → status_of fault ≡ 6 → fault ≡ Input
-at_six Settings e = absurd (omega (arith, e))
-at_six Input e = refl
-at_six Disk e = absurd (omega (arith, e))
-at_six Memory e = absurd (omega (arith, e))
-at_six Formatted e = absurd (omega (arith, e))
+pub at_formatted : (fault : InitFault) → fault_ending fault ≡ ending.Formatted → fault ≡ Formatted
+at_formatted Settings e = absurd (cc e)
+at_formatted Input e = absurd (cc e)
+at_formatted Disk e = absurd (cc e)
+at_formatted Memory e = absurd (cc e)
+at_formatted Formatted e = refl
 
-pub at_seven : (fault : InitFault) → status_of fault ≡ 7 → fault ≡ Disk
-at_seven Settings e = absurd (omega (arith, e))
-at_seven Input e = absurd (omega (arith, e))
-at_seven Disk e = refl
-at_seven Memory e = absurd (omega (arith, e))
-at_seven Formatted e = absurd (omega (arith, e))
+pub is_init_end : (fault : InitFault) → IsInitEnd (fault_ending fault)
+is_init_end Settings = tt
+is_init_end Input = tt
+is_init_end Disk = tt
+is_init_end Memory = tt
+is_init_end Formatted = tt
 
-pub at_eleven : (fault : InitFault) → status_of fault ≡ 11 → fault ≡ Formatted
-at_eleven Settings e = absurd (omega (arith, e))
-at_eleven Input e = absurd (omega (arith, e))
-at_eleven Disk e = absurd (omega (arith, e))
-at_eleven Memory e = absurd (omega (arith, e))
-at_eleven Formatted e = refl
-
--- the statuses of faults
-pub is_status : (fault : InitFault) → IsOneOf (status_of fault) (0 ∷ 4 ∷ 6 ∷ 7 ∷ 8 ∷ 10 ∷ 11 ∷ [])
-is_status Settings = inr (inl refl)
-is_status Input = inr (inr (inl refl))
-is_status Disk = inr (inr (inr (inl refl)))
-is_status Memory = inr (inr (inr (inr (inr (inl refl)))))
-is_status Formatted = inr (inr (inr (inr (inr (inr (inl refl))))))
-
--- every status of a fault but the disk's leaves the file
-pub not_disk : (fault : InitFault) → IsOneOf (status_of fault) (4 ∷ 6 ∷ 10 ∷ 11 ∷ []) → fault ≢ Disk
-not_disk fault among is = not_among (subst (λ (f : InitFault). IsOneOf (status_of f) (4 ∷ 6 ∷ 10 ∷ 11 ∷ [])) is among)
-  where
-    not_among : IsOneOf 7 (4 ∷ 6 ∷ 10 ∷ 11 ∷ []) → ⊥
-    not_among among = omega (arith, among)
-
-pub not_made : (fault : InitFault) → IsOneOf (status_of fault) (0 ∷ 8 ∷ []) → ⊥
-not_made fault among = ⊎_elim (not_zero fault) (⊎_elim (not_eight fault) (λ none. none)) among
-
--- where the file is formatted
-pub if_formatted : (fault : InitFault) → (fault ≡ Formatted) ⊎ (fault ≡ Disk) → IsOneOf (status_of fault) (7 ∷ 11 ∷ [])
-if_formatted fault either = ⊎_elim (λ e. inr (inl (ap status_of e))) (λ e. inl (ap status_of e)) either
-
--- where it isn't
-pub if_unformatted : (fault : InitFault) → fault ≢ Formatted → IsOneOf (status_of fault) (4 ∷ 6 ∷ 7 ∷ 10 ∷ [])
-if_unformatted Settings not = inl refl
-if_unformatted Input not = inr (inl refl)
-if_unformatted Disk not = inr (inr (inl refl))
-if_unformatted Memory not = inr (inr (inr (inl refl)))
-if_unformatted Formatted not = absurd (not refl)
+pub not_done : (fault : InitFault) → fault_ending fault ≢ ending.Done 0
+not_done Settings e = cc e
+not_done Input e = cc e
+not_done Disk e = cc e
+not_done Memory e = cc e
+not_done Formatted e = cc e

@@ -1,4 +1,3 @@
-pub mod Written
 pub mod Moments
 pub mod Faults
-pub mod Refusals
+pub mod Endings

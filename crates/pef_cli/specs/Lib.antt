@@ -1,4 +1,3 @@
 pub mod Words
-pub mod Output
 pub mod Init
 pub mod Top

@@ -1,10 +1,10 @@
 //! Why a state file isn't formatted.
 ghost use Rattle.std.specs.Prelude.{◌≡◌};
 ghost use Rattle.pef_cli.specs.declared.init_fault.InitFault.TheVariants.{Disk};
-ghost use Rattle.pef_cli.specs.Init.{status_of, fault_of};
-ghost use Rattle.pef_cli.specs.Output.{last_line};
+ghost use Rattle.pef_cli.specs.Init.{fault_ending, fault_of};
 
 use board_core::DiskFailed;
+use report_line::Ending;
 use script_text::TextFault;
 use thiserror::Error;
 
@@ -29,29 +29,16 @@ pub enum InitFault {
 }
 
 impl InitFault {
-    /// The program's status.
-    pub fn status(self) -> u8
-        ensures { result ≡ status_of self }
+    /// How a call ends that it keeps from making the file.
+    pub fn ending(self) -> Ending
+        ensures { result ≡ fault_ending self }
     {
         match self {
-            InitFault::Settings => 4,
-            InitFault::Input => 6,
-            InitFault::Disk => 7,
-            InitFault::Memory => 10,
-            InitFault::Formatted => 11,
-        }
-    }
-
-    /// The last line that the program writes, with its end.
-    pub fn line(self) -> &'static [u8]
-        ensures { result.now ≡ last_line (status_of self) }
-    {
-        match self {
-            InitFault::Settings => b"settings text\n",
-            InitFault::Input => b"input failed\n",
-            InitFault::Disk => b"disk failed\n",
-            InitFault::Memory => b"memory\n",
-            InitFault::Formatted => b"formatted\n",
+            InitFault::Settings => Ending::Settings,
+            InitFault::Input => Ending::Input,
+            InitFault::Disk => Ending::Disk,
+            InitFault::Memory => Ending::Memory,
+            InitFault::Formatted => Ending::Formatted,
         }
     }
 }

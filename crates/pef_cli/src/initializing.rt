@@ -3,12 +3,13 @@ ghost use Rattle.std.specs.Prelude.{◌≡◌, ◌≢◌, ◌⊎◌, ◌≤◌, 
 ghost use Rattle.board_core.specs.Causes.{Rose};
 ghost use Rattle.board_core.specs.Board.{IsFileRun};
 ghost use Rattle.pef_journal.specs.Image.{IsFormatted};
-ghost use Rattle.script_run.specs.Top.{WritesNothing};
-ghost use Rattle.pef_cli.specs.Init.{Gives, GivesNone, IsMade, KeepsMoments, Inits};
+ghost use Rattle.script_run.specs.Top.{WritesNothing, outside};
+ghost use Rattle.pef_cli.specs.Init.{Gives, GivesNone, IsMade, KeepsMoments, Makes, Inits};
 
 use crate::init_fault::InitFault;
 use board_core::{Board, Sink, Source};
 use pef_journal::{format, kind_of};
+use report_line::{Ending, finish};
 use script_text::{SettingsOctets, TextFault, read_settings};
 use std::alloc::Global;
 
@@ -23,18 +24,20 @@ pub fn init<B: Board, S: Source, K: Sink>(
     source: &mut S,
     out: &mut K,
 ) -> u8
-    ensures { Inits (B.view board.old) (B.view board.new) (S.left source.old) (S.faults source.old) (S.faults source.new)
-        (K.written out.old) (K.written out.new) (K.faults out.old) (K.faults out.new) result }
+    ensures { Inits (outside (B.view board.old) (S.left source.old) (S.faults source.old) (K.written out.old) (K.faults out.old))
+        (outside (B.view board.new) (S.left source.new) (S.faults source.new) (K.written out.new) (K.faults out.new)) result }
+{
+    let end = end_of(alloc, board, source);
+    finish(out, end)
+}
+
+// Makes the file, and says how the call ends.
+fn end_of<B: Board, S: Source>(alloc: Global, board: &mut B, source: &mut S) -> Ending
+    ensures { Makes (B.view board.old) (B.view board.new) (S.left source.old) (S.faults source.old) (S.faults source.new) result }
 {
     match make(alloc, board, source) {
-        Ok(()) => match out.write(b"ok 0\n") {
-            Ok(()) => 0,
-            Err(_) => 8,
-        },
-        Err(fault) => {
-            let _ = out.write(fault.line());
-            fault.status()
-        }
+        Ok(()) => Ending::Done { count: 0 },
+        Err(fault) => fault.ending(),
     }
 }
 
@@ -49,6 +52,7 @@ fn make<B: Board, S: Source>(alloc: Global, board: &mut B, source: &mut S) -> Re
     ensures refused { IsErrOf result InitFault.Settings → GivesNone (S.left source.old) }
     ensures input { IsErrOf result InitFault.Input → Rose (S.faults source.old) (S.faults source.new) }
     ensures disk { IsErrOf result InitFault.Disk → Rose (B.view board.old).disk_faults (B.view board.new).disk_faults }
+    ensures calm { OnOk result (((B.view board.new).disk_faults ≡ (B.view board.old).disk_faults) × (S.faults source.new ≡ S.faults source.old)) }
     ensures run { IsFileRun (B.view board.old) (B.view board.new) }
     ensures later { S.faults source.old ≤ S.faults source.new }
 {
@@ -66,6 +70,7 @@ fn settings_in<S: Source>(alloc: Global, source: &mut S) -> Result<SettingsOctet
     ensures refused { IsErrOf result InitFault.Settings → GivesNone (S.left source.old) }
     ensures input { IsErrOf result InitFault.Input → Rose (S.faults source.old) (S.faults source.new) }
     ensures others { IfErr result (λ fault. (fault ≢ InitFault.Disk) × (fault ≢ InitFault.Formatted)) }
+    ensures calm { OnOk result (S.faults source.new ≡ S.faults source.old) }
     ensures later { S.faults source.old ≤ S.faults source.new }
 {
     match read_settings(alloc, source) {

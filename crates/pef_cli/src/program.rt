@@ -2,18 +2,21 @@
 ghost use Rattle.std.specs.Prelude.{◌≡◌, ◌⊎◌, map, string_bytes};
 ghost use Rattle.pef_cli.specs.declared.form.Form.TheVariants.{Init, Run};
 ghost use Rattle.pef_cli.specs.Init.{Inits};
-ghost use Rattle.pef_cli.specs.Output.{Says};
+ghost use Rattle.report_line.specs.declared.ending.Ending.TheVariants.{Usage};
+ghost use Rattle.report_line.specs.Finishing.{Finishes};
 ghost use Rattle.pef_cli.specs.Top.{IsNoForm, IsOfForm};
 ghost use Rattle.pef_core.specs.Histories.{controller_rules};
 ghost use Rattle.pef_core.specs.Report.{controller_scripts};
 ghost use Rattle.pef_core.specs.View.{view_of};
-ghost use Rattle.script_run.specs.Top.{RunCall};
+ghost use Rattle.script_run.specs.Going.{kind};
+ghost use Rattle.script_run.specs.Top.{RunCall, outside};
 
 use crate::form::Form;
 use crate::initializing::init;
 use crate::words::paths;
 use board_core::{Board, Sink, Source};
 use pef_core::Controller;
+use report_line::{Ending, finish};
 use script_run::run;
 use std::alloc::Global;
 
@@ -27,27 +30,20 @@ pub fn top<B: Board, S: Source, K: Sink>(
     out: &mut K,
 ) -> u8
     ensures usage { IsNoForm (map string_bytes words.now) → (result ≡ 2) × (board.new ≡ board.old) × (source.new ≡ source.old)
-        × Says (K.written out.old) (K.written out.new) (K.faults out.old) (K.faults out.new) result }
+        × Finishes (K.written out.old) (K.written out.new) (K.faults out.old) (K.faults out.new) Usage result }
     ensures is_usage { result ≡ 2 → IsNoForm (map string_bytes words.now) }
-    ensures init { IsOfForm Init (map string_bytes words.now) → Inits (B.view board.old) (B.view board.new) (S.left source.old) (S.faults source.old) (S.faults source.new)
-        (K.written out.old) (K.written out.new) (K.faults out.old) (K.faults out.new) result }
-    ensures run { IsOfForm Run (map string_bytes words.now) → RunCall controller_rules view_of controller_scripts (B.view board.old) (B.view board.new)
-        (S.left source.old) (S.faults source.old) (S.faults source.new) (K.written out.old) (K.written out.new) (K.faults out.old) (K.faults out.new) result }
+    ensures init { IsOfForm Init (map string_bytes words.now) → Inits
+        (outside (B.view board.old) (S.left source.old) (S.faults source.old) (K.written out.old) (K.faults out.old))
+        (outside (B.view board.new) (S.left source.new) (S.faults source.new) (K.written out.new) (K.faults out.new)) result }
+    ensures run { IsOfForm Run (map string_bytes words.now) → RunCall (kind controller_rules view_of controller_scripts)
+        (outside (B.view board.old) (S.left source.old) (S.faults source.old) (K.written out.old) (K.faults out.old))
+        (outside (B.view board.new) (S.left source.new) (S.faults source.new) (K.written out.new) (K.faults out.new)) result }
 {
     let Some(paths) = paths(words) else {
-        return usage(out);
+        return finish(out, Ending::Usage);
     };
     match paths.form {
         Form::Init => init(alloc, board, source, out),
         Form::Run => run::<Controller, B, S, K>(alloc, board, source, out),
     }
-}
-
-// The words are no form.
-fn usage<K: Sink>(out: &mut K) -> u8
-    ensures status { result ≡ 2 }
-    ensures says { Says (K.written out.old) (K.written out.new) (K.faults out.old) (K.faults out.new) result }
-{
-    let _ = out.write(b"usage\n");
-    2
 }

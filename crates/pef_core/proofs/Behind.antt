@@ -9,14 +9,17 @@ use Rattle.std.proofs.lemmas.Option.{slice_get_cases, slice_get_within}
 use Rattle.pef_engine.specs.declared.entry.Entry.{Entry}
 use Rattle.pef_engine.specs.declared.entry.Entry.TheVariants.{Item as Taken, Outcome}
 use Rattle.pef_engine.specs.Rules.{IsOutcome}
+use Rattle.pef_engine.specs.Scripts.{script_from}
+use Rattle.pef_engine.proofs.ScriptOf.{from-append}
 use Rattle.pef_core.specs.declared.item.Item.{Item}
 use Rattle.pef_core.specs.declared.item.Item.TheVariants.{Event, Open, Close}
 use Rattle.pef_core.specs.declared.note.Note.{Note}
 use Rattle.pef_core.specs.declared.note.Note.TheVariants.{Nothing}
 use Rattle.pef_core.specs.declared.controller.Controller.{Controller}
 use Rattle.pef_core.specs.Asking.{asks, asks_by, asking_by}
-use Rattle.pef_core.specs.History.{is_added, note_of, log_by, log_with, log_of, note_with, note_behind, script_with, is_outcome, outcomes_of}
+use Rattle.pef_core.specs.History.{is_added, note_of, log_by, log_with, log_of, note_with, note_behind, is_outcome, outcomes_of}
 use Rattle.pef_core.specs.Histories.{asking, step_of}
+use Rattle.pef_core.specs.Report.{controller_scripts}
 use Rattle.pef_core.specs.View.{IsMark, ShowsController, AllowedBy, Continues, start_of}
 use Rattle.pef_core.proofs.Places.{counts_one}
 
@@ -65,7 +68,7 @@ pub goes_on : (old new : Controller) (entry : Entry Item) → AllowedBy old entr
 goes_on old new entry allowed on Z H shows = record {
   filter_is = on.filter_is ∙ shows.filter_is;
   log_is = on.log_is ∙ ap (λ log. log_with log entry) shows.log_is ∙ sym (fold_push log_with [] H entry);
-  script_is = on.script_is ∙ ap (λ script. script_with script entry) shows.script_is ∙ sym (fold_push script_with None H entry);
+  script_is = on.script_is ∙ ap (λ script. script_from controller_scripts script (entry ∷ [])) shows.script_is ∙ sym (from-append controller_scripts None H (entry ∷ []));
   note_is = on.note_is ∙ ap (λ log. note_with log old.note entry) shows.log_is ∙ ap (λ note. note_with (log_of H) note entry) shows.note_is ∙ sym (note_behind_push [] Nothing H entry);
   mark_is = record {
     within = on.mark_is.within;

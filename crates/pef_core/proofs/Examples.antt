@@ -13,7 +13,9 @@ use Rattle.pef_core.specs.declared.item.Item.TheVariants.{Event, Open, Close}
 use Rattle.pef_core.specs.declared.note.Note.TheVariants.{Added, Refused, NotAdded, Nothing}
 use Rattle.filter_table.specs.BitTest.{fits, is_match}
 use Rattle.pef_core.specs.Asking.{asks_by, asks}
-use Rattle.pef_core.specs.History.{log_of, note_after, script_of}
+use Rattle.pef_core.specs.History.{log_of, note_after}
+use Rattle.pef_engine.specs.Scripts.{script_of}
+use Rattle.pef_core.specs.Report.{controller_scripts}
 use Rattle.pef_core.specs.Histories.{pending, encode, controller_rules}
 
 -- an enabled filter with these actions, on sensor type 04h and offset 2
@@ -76,11 +78,11 @@ waits : pending settings (full ++ Taken (Event (fan_with 0x03 0x02 0x52)) ∷ []
 unfolding fits is_match asks_by
 waits = refl
 
-counts : (script_of logged ≡ Some (record { id = 1; count = 2; taken = 1; closed = false })) × (script_of full ≡ Some (record { id = 1; count = 2; taken = 2; closed = false }))
+counts : (script_of controller_scripts logged ≡ Some (record { id = 1; count = 2; taken = 1; closed = false })) × (script_of controller_scripts full ≡ Some (record { id = 1; count = 2; taken = 2; closed = false }))
 counts = (refl, refl)
 
 -- what comes behind a closed script isn't counted
-stays : script_of (closed ++ Taken (Event fan) ∷ []) ≡ Some (record { id = 1; count = 2; taken = 2; closed = true })
+stays : script_of controller_scripts (closed ++ Taken (Event fan) ∷ []) ≡ Some (record { id = 1; count = 2; taken = 2; closed = true })
 stays = refl
 
 notes : (note_after [] ≡ Nothing) × (note_after logged ≡ Added 0x0001) × (note_after answered ≡ Added 0x0001) × (note_after closed ≡ Nothing)

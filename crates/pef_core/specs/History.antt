@@ -1,5 +1,5 @@
--- What a history of the controller says: its records, its script and what its last item did.
-use Rattle.std.specs.Prelude.{ℕ, ◌+◌, Bool, true, false, if◌then◌else◌, List, [], ◌∷◌, ◌++◌, Option, Some, None, option_map, fold, count_by}
+-- What a history of the controller says: its records and what its last item did.
+use Rattle.std.specs.Prelude.{ℕ, Bool, true, false, if◌then◌else◌, List, [], ◌∷◌, ◌++◌, Option, Some, None, fold, count_by}
 use Rattle.event_record.specs.declared.fault.RecordFault.{RecordFault}
 use Rattle.event_record.specs.declared.fault.LogFault.{LogFault}
 use Rattle.event_record.specs.Fields.{record_id}
@@ -7,7 +7,6 @@ use Rattle.event_record.specs.Rules.{record_fault}
 use Rattle.event_record.specs.Log.{add_fault}
 use Rattle.pef_engine.specs.declared.entry.Entry.{Entry}
 use Rattle.pef_engine.specs.declared.entry.Entry.TheVariants.{Item as Taken, Outcome}
-use Rattle.pef_engine.specs.declared.script.Script.{Script}
 use Rattle.pef_core.specs.declared.item.Item.{Item}
 use Rattle.pef_core.specs.declared.item.Item.TheVariants.{Event, Open, Close}
 use Rattle.pef_core.specs.declared.note.Note.{Note}
@@ -57,23 +56,6 @@ note_behind log note (entry ∷ H) = note_behind (log_with log entry) (note_with
 -- what the last item did, and Nothing where none was taken
 abbrev pub note_after : List (Entry Item) → Note
 note_after H = note_behind [] Nothing H
-
--- one more item was taken from the script, unless it is closed
-abbrev pub count_item : Script → Script
-count_item script = if script.closed then script else record script { taken = script.taken + 1 }
-
-abbrev pub close_script : Script → Script
-close_script script = record script { closed = true }
-
-abbrev pub script_with : Option Script → Entry Item → Option Script
-script_with script (Taken (Event octets)) = option_map count_item script
-script_with script (Taken (Open id count)) = Some (record { id = id; count = count; taken = 0; closed = false })
-script_with script (Taken Close) = option_map close_script script
-script_with script (Outcome told) = script
-
--- the script that was opened last
-abbrev pub script_of : List (Entry Item) → Option Script
-script_of H = fold script_with None H
 
 abbrev pub is_outcome : Entry Item → Bool
 is_outcome (Taken item) = false

@@ -1,18 +1,22 @@
 -- What a machine has to show, of the controller.
-use Rattle.std.specs.Prelude.{◌≡◌, ◌↔◌, ◌≤◌, ℕ, zero, suc, Bool, true, false, cond, IsTrue, List, [], ◌∷◌, length, take, filter, slice_get, IsSome, IfSome, option_map, refl}
+use Rattle.std.specs.Prelude.{◌≡◌, ◌↔◌, ◌≤◌, ℕ, zero, suc, Bool, true, false, cond, IsTrue, List, [], ◌∷◌, length, take, filter, slice_get, Option, Some, None, IsSome, IfSome, option_map, bytes_eq, if◌then◌else◌, codes, refl}
 use Rattle.std.proofs.Common.{sym, ◌∙◌, ap, subst, arith}
 use Rattle.board_core.specs.declared.step.Told.{Told}
 use Rattle.board_core.specs.declared.step.Told.TheVariants.{Done, Failed}
 use Rattle.pef_engine.specs.declared.entry.Entry.{Entry}
 use Rattle.pef_engine.specs.declared.entry.Entry.TheVariants.{Item as Taken, Outcome}
 use Rattle.pef_engine.specs.Rules.{Allowed}
+use Rattle.pef_engine.specs.declared.script.ScriptStep.TheVariants.{Takes}
 use Rattle.pef_engine.specs.MachineView.{Agrees}
+use Rattle.pef_engine.specs.Scripts.{MayCome, IsScripted}
 use Rattle.pef_core.specs.declared.item.Item.{Item}
 use Rattle.pef_core.specs.declared.item.Item.TheVariants.{Event, Open, Close}
 use Rattle.pef_core.specs.declared.controller.Controller.{Controller}
 use Rattle.pef_core.specs.Asking.{asks}
 use Rattle.pef_core.specs.History.{log_of, outcomes_of}
-use Rattle.pef_core.specs.Histories.{asking, step_of, pending, MayCome, IsEntry, encode, controller_rules}
+use Rattle.pef_core.specs.Histories.{asking, step_of, pending, IsEntry, encode, controller_rules}
+use Rattle.pef_core.specs.Report.{item_of_words, step_in, controller_scripts}
+use Rattle.script_text.specs.Forms.{words_of, octets_exactly}
 use Rattle.pef_core.specs.View.{ShowsController, due_of, AllowedBy, view_of}
 
 -- an outcome takes the same room whatever was told
@@ -58,6 +62,7 @@ pub controller_agrees : (controller : Controller) → Agrees controller_rules (v
 controller_agrees controller = record {
   due = λ Z H lawful shows. due_is Z H shows;
   allowed = λ Z H entry lawful shows. allowed_is Z H entry shows;
+  over = λ Z H item lawful shows. (λ a. a, λ a. a);
   outcome = λ told. (λ a. a, λ a. a);
   item = λ item allowed. allowed.0;
 }
@@ -67,7 +72,31 @@ controller_agrees controller = record {
 
     allowed_is : (Z : List ℕ) (H : List (Entry Item)) (entry : Entry Item) → ShowsController controller Z H → AllowedBy controller entry ↔ Allowed controller_rules Z H entry
     allowed_is Z H (Taken item) shows = (
-      λ a. (sym (due_is Z H shows) ∙ a.0, (subst (λ s. MayCome s item) shows.script_is a.1.0, a.1.1)),
-      λ a. (due_is Z H shows ∙ a.0, (subst (λ s. MayCome s item) (sym shows.script_is) a.1.0, a.1.1)),
+      λ a. (sym (due_is Z H shows) ∙ a.0, (subst (λ s. MayCome s (step_in item)) shows.script_is a.1.0, a.1.1)),
+      λ a. (due_is Z H shows ∙ a.0, (subst (λ s. MayCome s (step_in item)) (sym shows.script_is) a.1.0, a.1.1)),
     )
     allowed_is Z H (Outcome told) shows = (λ a. subst (λ o. IsSome o) (due_is Z H shows) a, λ a. subst (λ o. IsSome o) (sym (due_is Z H shows)) a)
+
+-- an item that a line gives is one of the script
+event_takes : (octets : Option (List ℕ)) (item : Item) → option_map Event octets ≡ Some item → step_in item ≡ Takes
+event_takes None item is = absurd (cc is)
+event_takes (Some found) item is = let same : Event found ≡ item = cc is in ap step_in (sym same)
+
+takes : (words : List (List ℕ)) (item : Item) → item_of_words words ≡ Some item → step_in item ≡ Takes
+takes [] item is = absurd (cc is)
+takes (first ∷ []) item is = absurd (cc is)
+takes (first ∷ digits ∷ []) item is = by (bytes_eq first (codes "event")) is
+  where
+    by : (b : Bool) → (if b then option_map Event (octets_exactly 16 digits) else None) ≡ Some item → step_in item ≡ Takes
+    by true e = event_takes (octets_exactly 16 digits) item e
+    by false e = absurd (cc e)
+takes (first ∷ digits ∷ other ∷ more) item is = absurd (cc is)
+
+-- a controller takes items as its scripts say
+pub controller_scripted : IsScripted controller_rules controller_scripts
+controller_scripted = record {
+  opens = λ id count. refl;
+  closes = refl;
+  takes = λ line item is. takes (words_of line) item is;
+  may = λ Z H item. (λ a. a, λ a. a);
+}

@@ -4,13 +4,12 @@ ghost use Rattle.std.specs.Prelude.{◌≤◌, length};
 
 use crate::asking::first_asking;
 use crate::events::add_event;
-use crate::item::Item;
+use crate::item::{Item, step_in};
 use crate::note::Note;
-use crate::scripts::{count_item, may_come};
 use board_core::{Act, Step};
 use event_record::Log;
 use filter_table::Filter;
-use pef_engine::{Entry, Script};
+use pef_engine::{Entry, Script, may_come, script_behind};
 use std::alloc::{AllocError, Global};
 
 /// The controller of one event filter: the records that were logged, and how far they are processed.
@@ -29,8 +28,10 @@ pub struct Controller {
 impl Controller {
     ghost use Rattle.std.specs.Prelude.{◌≡◌, ◌↔◌, ◌+◌, ◌<◌, ◌≤◌, length, ℕ, [], List, IsSome, IsTrue, IfOk};
     ghost use Rattle.pef_core.specs.Asking.{filter_of};
-    ghost use Rattle.pef_core.specs.Histories.{MayCome};
-    ghost use Rattle.pef_core.specs.History.{note_after, script_of, log_with, script_with, note_with};
+    ghost use Rattle.pef_core.specs.Histories.{IsItem};
+    ghost use Rattle.pef_engine.specs.Scripts.{MayCome, script_with, script_of};
+    ghost use Rattle.pef_core.specs.Report.{step_in, controller_scripts};
+    ghost use Rattle.pef_core.specs.History.{note_after, log_with, note_with};
     ghost use Rattle.pef_core.specs.View.{ShowsController, AllowedBy, Continues, due_of};
 
     /// The controller of this filter at the start of its history, with room for a whole log.
@@ -47,8 +48,8 @@ impl Controller {
     }
 
     /// The script that was opened last, and None where none was.
-    pub fn script(&self) -> Option<Script>
-        ensures { (Z : List ℕ) (H : List (Entry Item)) → ShowsController self.now Z H → result ≡ script_of H }
+    pub(crate) fn opened(&self) -> Option<Script>
+        ensures { (Z : List ℕ) (H : List (Entry Item)) → ShowsController self.now Z H → result ≡ script_of controller_scripts H }
     {
         self.script
     }
@@ -77,7 +78,7 @@ impl Controller {
     {
         let is_due = self.mark < self.log.len();
         match entry {
-            Entry::Item(item) => !is_due && may_come(self.script, *item),
+            Entry::Item(item) => !is_due && may_come(self.script, step_in(*item)),
             Entry::Outcome(_) => is_due,
         }
     }
@@ -102,34 +103,17 @@ impl Controller {
 
     /// Takes an item, and leaves the mark where it stands.
     fn take(&mut self, item: &Item)
-        requires { MayCome self.old.script item.now }
+        requires { MayCome self.old.script (step_in item.now) }
         ensures filter { self.new.filter ≡ self.old.filter }
         ensures mark { self.new.mark ≡ self.old.mark }
         ensures log { self.new.log ≡ log_with self.old.log (Entry.Item item.now) }
-        ensures script { self.new.script ≡ script_with self.old.script (Entry.Item item.now) }
+        ensures script { self.new.script ≡ script_with self.old.script (step_in item.now) }
         ensures note { self.new.note ≡ note_with self.old.log self.old.note (Entry.Item item.now) }
     {
-        match item {
-            Item::Event(octets) => {
-                self.note = add_event(&mut self.log, octets);
-                self.script = self.script.map(count_item);
-            }
-            Item::Open { id, count } => {
-                self.note = Note::Nothing;
-                self.script = Some(Script {
-                    id: *id,
-                    count: *count,
-                    taken: 0,
-                    closed: false,
-                });
-            }
-            Item::Close => {
-                self.note = Note::Nothing;
-                self.script = self.script.map(|script| Script {
-                    closed: true,
-                    ..script
-                });
-            }
-        }
+        self.script = script_behind(self.script, step_in(*item));
+        self.note = match item {
+            Item::Event(octets) => add_event(&mut self.log, octets),
+            Item::Open { .. } | Item::Close => Note::Nothing,
+        };
     }
 }

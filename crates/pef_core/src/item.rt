@@ -1,4 +1,9 @@
 //! What a controller takes.
+ghost use Rattle.std.specs.Prelude.{◌≡◌};
+ghost use Rattle.pef_core.specs.Report.{step_in};
+ghost use Rattle.pef_core.specs.Histories.{IsItem};
+
+use pef_engine::ScriptStep;
 
 /// An item of a controller's history.
 #[derive(Clone, Copy, Debug, PartialEq, Eq)]
@@ -9,4 +14,16 @@ pub enum Item {
     Open { id: u32, count: u32 },
     /// All items of the script were taken.
     Close,
+}
+
+/// What the item does to the script that was opened last.
+pub(crate) fn step_in(item: Item) -> ScriptStep
+    ensures step { result ≡ step_in item }
+    ensures is_item { IsItem item }
+{
+    match item {
+        Item::Event(_) => ScriptStep::Takes,
+        Item::Open { id, count } => ScriptStep::Opens { id, count },
+        Item::Close => ScriptStep::Closes,
+    }
 }

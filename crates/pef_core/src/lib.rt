@@ -9,7 +9,6 @@ mod item;
 mod machine;
 mod note;
 mod report;
-mod scripts;
 
 pub use controller::Controller;
 pub use item::Item;

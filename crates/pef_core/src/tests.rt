@@ -2,7 +2,7 @@
 use super::*;
 use board_core::{Act, Step, Told};
 use event_record::{LogFault, RecordFault};
-use pef_engine::{Entry, Machine, Script};
+use pef_engine::{Entry, Machine, Script, Scripted};
 use std::test::Fail;
 
 /// Settings whose filter is enabled and asks for a diagnostic interrupt, for sensor type 04h and offset 2.

@@ -6,3 +6,4 @@ pub mod CallsLaw
 pub mod Ready
 pub mod Compose
 pub mod Replaying
+pub mod ScriptOf

@@ -2,7 +2,8 @@
 use Rattle.std.proofs.Common.{◌≡◌, ◌⊎◌, inl, inr, ⊎_elim, ℕ, List, [], ◌∷◌, ◌++◌, map, Option, Some, Ok, Err, true, false, IsTrue, refl, sym, ◌∙◌, ap, subst, append_assoc}
 use Rattle.std.proofs.lemmas.List.{append-nil, map-append}
 use Rattle.std.specs.Prelude.{IsErrOf}
-use Rattle.board_core.specs.Board.{BoardView, CrashState, IsFileRun, SyncsFirst, NeverSynced}
+use Rattle.board_core.specs.Causes.{Rose}
+use Rattle.board_core.specs.Board.{BoardView, CrashState, IsSound, IsFileRun, Reads, SyncsFirst, NeverSynced}
 use Rattle.pef_engine.specs.declared.entry.Entry.{Entry}
 use Rattle.pef_engine.specs.declared.entry.Entry.TheVariants.{Item, Outcome}
 use Rattle.pef_engine.specs.declared.engine.Engine.{Engine}
@@ -14,27 +15,14 @@ use Rattle.pef_journal.specs.declared.journal.Journal.{Journal}
 use Rattle.pef_journal.specs.Image as image
 use Rattle.pef_journal.specs.Journal.{IsAt, HasRead, GivesEntry, Finds, LeavesAsRead}
 use Rattle.pef_engine.specs.Faults.{fault_of}
-use Rattle.pef_engine.specs.Rules.{Rules, Allowed, LawfulFrom, Lawful, Stands, Decodes, BreaksAt}
-use Rattle.pef_engine.specs.MachineView.{MachineView, IsOver, GoesOn}
+use Rattle.pef_engine.specs.Rules.{Rules, Allowed, LawfulFrom, Lawful, Stands, StandsForSome, Decodes, BreaksAt, IsOver, NoneOver, HasOver}
+use Rattle.pef_engine.specs.MachineView.{MachineView, GoesOn}
 use Rattle.pef_engine.specs.CrashFree.{LeavesPrefix}
-use Rattle.pef_engine.specs.Engine.{Holds, Replayed, AllDecode, AfterOpen, HasCorruptCause}
-use Rattle.pef_journal.proofs.Moments.{syncs_map}
+use Rattle.pef_engine.specs.Engine.{Holds, IsLive, HasPlace, ShowsSome, OnlyRead, Replayed, AllDecode, MayStop, HasOpenCause, Opens, ReplaysOne}
+use Rattle.pef_journal.proofs.Moments.{syncs_map, syncs_reads, run_compose}
 use Rattle.pef_journal.proofs.ReadOn.{reads_stand}
 use Rattle.pef_engine.proofs.Moments.{leaves_start}
-use Rattle.pef_engine.proofs.Stored.{lawful-append}
-
--- what the journal answered where the engine says so
-pub unformatted_of : (fault : JournalFault) → fault_of fault ≡ NotFormatted → fault ≡ journal_fault.NotFormatted
-unformatted_of journal_fault.NotFormatted is = refl
-unformatted_of (journal_fault.Corrupt at) is = absurd (cc is)
-unformatted_of journal_fault.DiskFault is = absurd (cc is)
-unformatted_of journal_fault.Full is = absurd (cc is)
-
-pub corrupt_of : (fault : JournalFault) (at : ℕ) → fault_of fault ≡ Corrupt at → fault ≡ journal_fault.Corrupt at
-corrupt_of journal_fault.NotFormatted at is = absurd (cc is)
-corrupt_of (journal_fault.Corrupt place) at is = cc is
-corrupt_of journal_fault.DiskFault at is = absurd (cc is)
-corrupt_of journal_fault.Full at is = absurd (cc is)
+use Rattle.pef_engine.proofs.Stored.{counts_run, lawful-append, none_over-append}
 
 module _ {I : Type 0} (rules : Rules I) (Z : List ℕ) (are : (Z : List ℕ) (G : List (Entry I)) (e : Entry I) → Allowed rules Z G e → rules.is_entry e) where
   -- a history whose entries begin as these do, in octets, begins with them
@@ -77,47 +65,81 @@ module _ {I M : Type 0} (rules : Rules I) (view : M → MachineView I) (are : (Z
         ⊎ ((payload : List ℕ) × image.HasEntryAt now.octets k payload × ((e : Entry I) → rules.is_entry e → rules.encode e ≡ payload → Allowed rules r.settings r.done e → ⊥))) (sym is) broken;
   }
 
-module _ {I M : Type 0} (rules : Rules I) (view : M → MachineView I) (Z : List ℕ) (H : List (Entry I)) (start new : BoardView) (tells : IsTrue new.tells) (run : IsFileRun start new)
-    (octets : IsTrue new.tells → new.octets ≡ start.octets) (stands : Stands rules Z H start.octets) where
-  prefix_of : (left : CrashState) → LeavesAsRead start left → LeavesPrefix rules Z H start.sent [] left
-  prefix_of left p = leaves_start rules Z H start [] left p.0 (subst (Stands rules Z H) (sym p.1) stands)
+-- what an exit says that only read the file since the start
+module _ {I M : Type 0} (rules : Rules I) (view : M → MachineView I) (start new : BoardView) (run : IsFileRun start new) (octets : IsTrue new.tells → new.octets ≡ start.octets) where
+  prefix_of : (Z : List ℕ) (H : List (Entry I)) → Stands rules Z H start.octets → (left : CrashState) → LeavesAsRead start left → LeavesPrefix rules Z H start.sent [] left
+  prefix_of Z H stands left p = leaves_start rules Z H start [] left p.0 (subst (Stands rules Z H) (sym p.1) stands)
 
   -- whatever fault ends it
-  pub open_fails : (fault : EngineFault) → (NeverSynced start new ⊎ SyncsFirst start new (LeavesAsRead start))
-      → (IsErrOf {T = Engine M I} (Err fault) NotFormatted → ⊥) → ((at : ℕ) → IsErrOf {T = Engine M I} (Err fault) (Corrupt at) → ⊥) → AfterOpen {M = M} rules view Z H start new (Err fault)
-  open_fails fault moments formatted unbroken = record {
-    holds = tt;
-    sent = run.sent tells;
-    octets = octets tells;
-    any_moment = ⊎_elim inl (λ s. inr (syncs_map start new (LeavesAsRead start) (LeavesPrefix rules Z H start.sent []) prefix_of s)) moments;
-    synced = tt;
-    formatted = formatted;
-    unbroken = unbroken;
+  pub open_fails : (fault : EngineFault) → (IsTrue new.tells → NeverSynced start new ⊎ SyncsFirst start new (LeavesAsRead start)) → (IsTrue new.tells → HasOpenCause rules start.octets fault)
+      → (IsTrue new.tells → (Z : List ℕ) (H : List (Entry I)) → Lawful rules Z H → Stands rules Z H start.octets → MayStop rules Z H fault) → (fault ≡ DiskFault → Rose start.disk_faults new.disk_faults) → ((fault ≡ DiskFault → ⊥) → new.disk_faults ≡ start.disk_faults)
+      → Opens {M = M} rules view start new (Err fault)
+  open_fails fault moments causes stops disk same = record {
+    opened = λ tells Z H lawful stands. record {
+      holds = tt;
+      sent = run.sent tells;
+      octets = octets tells;
+      any_moment = ⊎_elim inl (λ s. inr (syncs_map start new (LeavesAsRead start) (LeavesPrefix rules Z H start.sent []) (prefix_of Z H stands) s)) (moments tells);
+      synced = tt;
+      stops = stops tells Z H lawful stands;
+      none_over = tt;
+    };
+    stands = λ tells. tt;
+    causes = causes;
+    counts = counts_run run (λ e. disk (cc e)) (λ not. same (λ e. not (cc e)));
+    moments = moments;
+    octets = octets;
+    run = run;
+    live = tt;
+    shows = tt;
   }
 
   -- at the first closed gate all is replayed
-  pub open_ends : (engine : Engine M I) → SyncsFirst start new (LeavesAsRead start) → Holds rules view Z H new engine → AfterOpen rules view Z H start new (Ok engine)
-  open_ends engine moments holds = record {
-    holds = holds;
-    sent = run.sent tells;
-    octets = octets tells;
-    any_moment = inr (syncs_map start new (LeavesAsRead start) (LeavesPrefix rules Z H start.sent []) prefix_of moments);
-    synced = syncs_map start new (LeavesAsRead start) (LeavesPrefix rules Z H start.sent []) prefix_of moments;
-    formatted = λ err. cc err;
-    unbroken = λ at err. cc err;
+  pub open_ends : (engine : Engine M I) → (IsTrue new.tells → SyncsFirst start new (LeavesAsRead start))
+      → (IsTrue new.tells → (Z : List ℕ) (H : List (Entry I)) → Lawful rules Z H → Stands rules Z H start.octets → Holds rules view Z H new engine × NoneOver rules Z [] H) → (IsTrue new.tells → StandsForSome rules start.octets)
+      → IsLive engine × HasPlace new engine → ShowsSome rules (view engine.machine) → new.disk_faults ≡ start.disk_faults → Opens rules view start new (Ok engine)
+  open_ends engine moments all some live shows same = record {
+    opened = λ tells Z H lawful stands.
+        let synced = syncs_map start new (LeavesAsRead start) (LeavesPrefix rules Z H start.sent []) (prefix_of Z H stands) (moments tells) in
+        let held = all tells Z H lawful stands in record {
+          holds = held.0;
+          sent = run.sent tells;
+          octets = octets tells;
+          any_moment = inr synced;
+          synced = synced;
+          stops = tt;
+          none_over = held.1;
+        };
+    stands = some;
+    causes = λ tells. tt;
+    counts = counts_run run (λ e. cc e) (λ not. same);
+    moments = λ tells. inr (moments tells);
+    octets = octets;
+    run = run;
+    live = live;
+    shows = shows;
   }
 
--- where the journal finds its gate or the entry corrupt, the file breaks there
-pub journal_cause : {I M : Type 0} (rules : Rules I) (view : M → MachineView I) (are : (Z : List ℕ) (G : List (Entry I)) (e : Entry I) → Allowed rules Z G e → rules.is_entry e) (now : BoardView) (tells : IsTrue now.tells)
-    (machine : M) (journal : Journal) → Replayed rules view now machine journal → (out : List ℕ) (fault : JournalFault) → Finds now.octets journal.place out (Err fault)
-    → (e : EngineFault) → ((at : ℕ) → e ≡ Corrupt at → fault ≡ journal_fault.Corrupt at) → HasCorruptCause rules now.octets e
-journal_cause rules view are now tells machine journal r out fault finds (Corrupt at) same =
-    let found = subst (λ f. Finds now.octets journal.place out (Err f)) (same at refl) finds in
-    breaks rules view are now tells machine journal r at found.0 (inl found.1)
-journal_cause rules view are now tells machine journal r out fault finds NotFormatted same = tt
-journal_cause rules view are now tells machine journal r out fault finds DiskFault same = tt
-journal_cause rules view are now tells machine journal r out fault finds Full same = tt
-journal_cause rules view are now tells machine journal r out fault finds (Memory error) same = tt
+for_kind : {I : Type 0} (rules : Rules I) (Z : List ℕ) (H : List (Entry I)) (file : List ℕ) → Stands rules Z H file → image.IsForKind rules.kind file
+for_kind rules Z H file stands = (Z, stands.0, stands.1)
+
+-- the journal isn't opened
+pub journal_fails : {I M : Type 0} (rules : Rules I) (view : M → MachineView I) (start new : BoardView) (run : IsFileRun start new) (octets : IsTrue new.tells → new.octets ≡ start.octets) (fault : JournalFault)
+    → (IsTrue new.tells → NeverSynced start new ⊎ SyncsFirst start new (LeavesAsRead start)) → (IsTrue new.tells → fault ≡ journal_fault.NotFormatted → image.IsForKind rules.kind start.octets → ⊥)
+    → (fault ≡ journal_fault.DiskFault → Rose start.disk_faults new.disk_faults) → ((fault ≡ journal_fault.DiskFault → ⊥) → new.disk_faults ≡ start.disk_faults)
+    → (fault ≡ journal_fault.NotFormatted) ⊎ (fault ≡ journal_fault.DiskFault) → Opens {M = M} rules view start new (Err (fault_of fault))
+journal_fails rules view start new run octets journal_fault.NotFormatted moments unformatted disk same other =
+    open_fails rules view start new run octets NotFormatted moments (λ t. unformatted t refl) (λ t Z H lawful stands. unformatted t refl (for_kind rules Z H start.octets stands)) (λ e. absurd (cc e)) (λ not. same (λ e. cc e))
+journal_fails rules view start new run octets journal_fault.DiskFault moments unformatted disk same other = open_fails rules view start new run octets DiskFault moments (λ t. tt) (λ t Z H lawful stands. tt) (λ e. disk refl) (λ not. absurd (not refl))
+journal_fails rules view start new run octets (journal_fault.Corrupt at) moments unformatted disk same other = absurd (⊎_elim (λ e. cc e) (λ e. cc e) other)
+journal_fails rules view start new run octets journal_fault.Full moments unformatted disk same other = absurd (⊎_elim (λ e. cc e) (λ e. cc e) other)
+
+pub read_on : (start now new : BoardView) → IsSound now → IsSound new → OnlyRead start now → Reads now new → OnlyRead start new
+read_on start now new sound sound' before reads = record {
+  run = run_compose start now new before.run reads.call.run;
+  octets = λ t. reads.octets t ∙ before.octets (reads.call.run.tells t);
+  moments = λ t. syncs_reads start now new (LeavesAsRead start) sound sound' reads t (before.moments (reads.call.run.tells t));
+}
 
 module _ {I : Type 0} (rules : Rules I) (Z : List ℕ) where
   lawful_next : (G H : List (Entry I)) (e : Entry I) (K : List (Entry I)) → LawfulFrom rules Z G (H ++ e ∷ K) → Allowed rules Z (G ++ H) e
@@ -126,12 +148,10 @@ module _ {I : Type 0} (rules : Rules I) (Z : List ℕ) where
 
   -- what is handed out is the next entry of the history
   pub next_of : (are : (Z : List ℕ) (G : List (Entry I)) (e : Entry I) → Allowed rules Z G e → rules.is_entry e) (done H K : List (Entry I)) → Lawful rules Z H → H ≡ done ++ K
-      → (new : BoardView) (journal : Journal) (out : List ℕ) → GivesEntry rules.kind Z (map rules.encode done) (map rules.encode K) new journal out true → (decoded : Option (Entry I)) → Decodes rules out decoded
-      → (e : Entry I) × (decoded ≡ Some e) × Allowed rules Z done e
-  next_of are done H [] lawful is new journal out gives decoded decodes = absurd gives
-  next_of are done H (e ∷ K) lawful is new journal out gives decoded decodes =
-      let allowed : Allowed rules Z done e = lawful_next [] done e K (subst (LawfulFrom rules Z []) is lawful) in
-      (e, decodes.found e (are Z done e allowed) (sym gives.0), allowed)
+      → (new : BoardView) (journal : Journal) (out : List ℕ) → GivesEntry rules.kind Z (map rules.encode done) (map rules.encode K) new journal out true
+      → (e : Entry I) × (rules.encode e ≡ out) × Allowed rules Z done e × (rest : List (Entry I)) × (H ≡ done ++ e ∷ rest)
+  next_of are done H [] lawful is new journal out gives = absurd gives
+  next_of are done H (e ∷ K) lawful is new journal out gives = (e, sym gives.0, lawful_next [] done e K (subst (LawfulFrom rules Z []) is lawful), K, is)
 
   pub all_decode-append : (H : List (Entry I)) (e : Entry I) → AllDecode rules H → Decodes rules (rules.encode e) (Some e) → AllDecode rules (H ++ e ∷ [])
   all_decode-append [] e decode one = (one, tt)
@@ -139,31 +159,85 @@ module _ {I : Type 0} (rules : Rules I) (Z : List ℕ) where
 
 module _ {I M : Type 0} (rules : Rules I) (view : M → MachineView I) (now new : BoardView) (machine : M) (journal : Journal) (r : Replayed rules view now machine journal) where
   -- the machine goes on with the entry that was read
-  pub replayed_on : (ready next : M) (after : Journal) (e : Entry I) (out : List ℕ) → Decodes rules out (Some e) → Allowed rules r.settings r.done e → ((view machine).shows r.settings r.done → (view ready).shows r.settings r.done)
-      → GoesOn rules (view ready) (view next) e → (IsTrue new.tells → HasRead rules.kind r.settings (map rules.encode r.done ++ out ∷ []) new after) → Replayed rules view new next after
-  replayed_on ready next after e out decodes allowed keeps goes read =
+  pub replayed_on : (next : M) (after : Journal) (out : List ℕ) (gate : ℕ) → ReplaysOne rules (view next) r.settings r.done out gate (Ok tt) → (IsTrue new.tells → HasRead rules.kind r.settings (map rules.encode r.done ++ out ∷ []) new after)
+      → Replayed rules view new next after
+  replayed_on next after out gate (e, decodes, allowed, not_over, shows) read =
       let enc : rules.encode e ≡ out = (decodes.right e refl).1 in record {
         settings = r.settings;
         done = r.done ++ e ∷ [];
         lawful = lawful-append rules r.settings r.done e r.lawful allowed;
-        shows = goes r.settings r.done r.lawful (keeps r.shows);
+        none_over = none_over-append rules r.settings [] r.done e r.none_over not_over;
+        shows = shows;
         decode = all_decode-append rules r.settings r.done e r.decode (subst (λ (o : List ℕ). Decodes rules o (Some e)) (sym enc) decodes);
         read = λ tells. subst (λ (l : List (List ℕ)). HasRead rules.kind r.settings l new after) (ap (λ o. map rules.encode r.done ++ o ∷ []) (sym enc) ∙ sym (map-append rules.encode r.done (e ∷ []))) (read tells);
       }
 
   -- and at the first closed gate all of the history is shown
   pub holds_at_end : (Z : List ℕ) (H K : List (Entry I)) → Z ≡ r.settings → H ≡ r.done ++ K → (out : List ℕ) (engine : Engine M I) → engine.machine ≡ machine
-      → GivesEntry rules.kind r.settings (map rules.encode r.done) (map rules.encode K) new engine.journal out false → Holds rules view Z H new engine
+      → GivesEntry rules.kind r.settings (map rules.encode r.done) (map rules.encode K) new engine.journal out false → Holds rules view Z H new engine × NoneOver rules Z [] H
   holds_at_end Z H (e ∷ K) same is out engine is_machine gives = absurd gives
   holds_at_end Z H [] same is out engine is_machine gives =
       let all : r.done ≡ H = sym (is ∙ append-nil r.done) in
-      subst (λ z. Holds rules view z H new engine) (sym same) (subst (λ h. Holds rules view r.settings h new engine) all (record {
-        lawful = r.lawful;
-        shows = subst (λ m. (view m).shows r.settings r.done) (sym is_machine) r.shows;
-        stored = gives;
-      }))
+      subst (λ z. Holds rules view z H new engine × NoneOver rules z [] H) (sym same) (subst (λ h. Holds rules view r.settings h new engine × NoneOver rules r.settings [] h) all (
+        record {
+          lawful = r.lawful;
+          shows = subst (λ m. (view m).shows r.settings r.done) (sym is_machine) r.shows;
+          stored = gives;
+        },
+        r.none_over,
+      ))
 
--- the machine whose limit stood against an item
-pub over_some : {I M : Type 0} (view : M → MachineView I) (machine : M) (e : Entry I) → IsOver (view machine) e → (m : M) × (item : I) × (view m).over item
-over_some view machine (Item item) over = (machine, item, over)
-over_some view machine (Outcome told) over = absurd over
+-- How a turn of the loop ends: the entry at the gate was read.
+module _ {I M : Type 0} (rules : Rules I) (view : M → MachineView I) (are : (Z : List ℕ) (G : List (Entry I)) (e : Entry I) → Allowed rules Z G e → rules.is_entry e) (start now new : BoardView) (before : OnlyRead start now)
+    (on : OnlyRead start new) (back : IsTrue new.tells → IsTrue now.tells) (machine : M) (journal : Journal) (r : Replayed rules view now machine journal) where
+  -- the history that the file stands for goes on at the gate
+  pub at_gate : IsTrue new.tells → (Z : List ℕ) (H : List (Entry I)) → Lawful rules Z H → Stands rules Z H start.octets
+      → (Z ≡ r.settings) × (K : List (Entry I)) × (H ≡ r.done ++ K) × IsAt rules.kind r.settings (map rules.encode r.done) (map rules.encode K) now journal
+  at_gate tells Z H lawful stands = stands_before rules view are now (back tells) machine journal r Z H lawful (subst (Stands rules Z H) (sym (before.octets (back tells))) stands)
+
+  -- the journal could not read it
+  pub entry_fails : (out : List ℕ) (fault : JournalFault) → (IsTrue new.tells → Finds now.octets journal.place out (Err fault))
+      → (IsTrue new.tells → (after : List (List ℕ)) → IsAt rules.kind r.settings (map rules.encode r.done) after now journal → fault ≡ journal_fault.DiskFault)
+      → (fault ≡ journal_fault.DiskFault → Rose start.disk_faults new.disk_faults) → ((fault ≡ journal_fault.DiskFault → ⊥) → new.disk_faults ≡ start.disk_faults) → Opens {M = M} rules view start new (Err (fault_of fault))
+  entry_fails out (journal_fault.Corrupt at) finds whole disk same = open_fails rules view start new on.run on.octets (Corrupt at) (λ t. inr (on.moments t))
+      (λ t. subst (BreaksAt rules at) (before.octets (back t)) (breaks rules view are now (back t) machine journal r at (finds t).0 (inl (finds t).1)))
+      (λ t Z H lawful stands. let g = at_gate t Z H lawful stands in absurd (let e = whole t (map rules.encode g.1) g.3 in cc e)) (λ e. absurd (cc e)) (λ not. same (λ e. cc e))
+  entry_fails out journal_fault.DiskFault finds whole disk same = open_fails rules view start new on.run on.octets DiskFault (λ t. inr (on.moments t)) (λ t. tt) (λ t Z H lawful stands. tt) (λ e. disk refl) (λ not. absurd (not refl))
+  entry_fails out journal_fault.NotFormatted finds whole disk same = open_fails rules view start new on.run on.octets NotFormatted (λ t. inr (on.moments t)) (λ t. absurd (finds t)) (λ t Z H lawful stands. absurd (finds t)) (λ e. absurd (cc e)) (λ not. same (λ e. cc e))
+  entry_fails out journal_fault.Full finds whole disk same = open_fails rules view start new on.run on.octets Full (λ t. inr (on.moments t)) (λ t. absurd (finds t)) (λ t Z H lawful stands. absurd (finds t)) (λ e. absurd (cc e)) (λ not. same (λ e. cc e))
+
+  -- the entry was read, and the machine doesn't go on with it
+  module _ (out : List ℕ) (after : Journal) (gate : ℕ) (is : gate ≡ journal.place) (has : IsTrue new.tells → Finds now.octets journal.place out (Ok true))
+      (gives : IsTrue new.tells → (K : List (List ℕ)) → IsAt rules.kind r.settings (map rules.encode r.done) K now journal → GivesEntry rules.kind r.settings (map rules.encode r.done) K new after out true) (same : new.disk_faults ≡ start.disk_faults) where
+    -- of a lawful history the next entry was read
+    is_next : (t : IsTrue new.tells) (Z : List ℕ) (H : List (Entry I)) → Lawful rules Z H → Stands rules Z H start.octets → (Z ≡ r.settings) × (e : Entry I) × (rules.encode e ≡ out) × Allowed rules r.settings r.done e × (rest : List (Entry I)) × (H ≡ r.done ++ e ∷ rest)
+    is_next t Z H lawful stands =
+        let g = at_gate t Z H lawful stands in
+        let n = next_of rules r.settings are r.done H g.1 (subst (λ z. Lawful rules z H) g.0 lawful) g.2 new after out (gives t (map rules.encode g.1) g.3) in
+        (g.0, n.0, n.1, n.2, n.3, n.4)
+
+    pub one_stops : (new_machine : M) (fault : EngineFault) → ReplaysOne rules (view new_machine) r.settings r.done out gate (Err fault) → Opens {M = M} rules view start new (Err fault)
+    one_stops new_machine (Corrupt at) (at_gate_is, refused) = open_fails rules view start new on.run on.octets (Corrupt at) (λ t. inr (on.moments t))
+        (λ t. subst (BreaksAt rules at) (before.octets (back t)) (breaks rules view are now (back t) machine journal r at (at_gate_is ∙ is) (inr (out, has t, refused))))
+        (λ t Z H lawful stands. let n = is_next t Z H lawful stands in refused n.1 (are r.settings r.done n.1 n.3) n.2 n.3) (λ e. absurd (cc e)) (λ not. same)
+    one_stops new_machine Full (e, decodes, allowed, over) = open_fails rules view start new on.run on.octets Full (λ t. inr (on.moments t))
+        (λ t. subst (HasOver rules) (before.octets (back t)) (record {
+          settings = r.settings;
+          before = r.done;
+          lawful = r.lawful;
+          at = journal.place;
+          reaches = record { rest = (r.read (back t)).rest; octets = (r.read (back t)).file; behind = (r.read (back t)).behind; place = (r.read (back t)).place };
+          next = e;
+          has = subst (λ o. image.HasEntryAt now.octets journal.place o) (sym (decodes.right e refl).1) (has t);
+          allowed = allowed;
+          over = over;
+        }))
+        (λ t Z H lawful stands.
+        let n = is_next t Z H lawful stands in
+        let found : Some e ≡ Some n.1 = decodes.found n.1 (are r.settings r.done n.1 n.3) n.2 in
+        let same : n.1 ≡ e = cc found in (r.done, e, n.4, n.5 ∙ ap (λ x. r.done ++ x ∷ n.4) same, subst (λ z. IsOver rules z r.done e) (sym n.0) over))
+        (λ e. absurd (cc e)) (λ not. same)
+    one_stops new_machine (Memory error) takes = open_fails rules view start new on.run on.octets (Memory error) (λ t. inr (on.moments t))
+        (λ t. subst (image.IsForKind rules.kind) (before.octets (back t)) (r.settings, image.blocks (map rules.encode r.done) ++ (r.read (back t)).rest, (r.read (back t)).file)) (λ t Z H lawful stands. tt) (λ e. absurd (cc e)) (λ not. same)
+    one_stops new_machine DiskFault never = absurd never
+    one_stops new_machine NotFormatted never = absurd never

@@ -5,4 +5,5 @@ pub mod CrashFree
 pub mod Lives
 pub mod Engine
 pub mod Scripts
+pub mod Marks
 pub mod Tally

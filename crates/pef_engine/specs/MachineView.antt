@@ -14,7 +14,7 @@ pub record MachineView (I : Type 0) : Type 1 where
   pub allowed : Entry I → Type 0
   -- the room for this item is made
   pub ready : I → Type 0
-  -- the machine's own limit stands against it
+  -- the machine's own limit leaves no room for it
   pub over : I → Type 0
   -- at least the number of steps that may still be issued before the next item
   pub left : ℕ
@@ -23,10 +23,10 @@ abbrev pub IsReadyFor : {I : Type 0} → MachineView I → Entry I → Type 0
 IsReadyFor view (Item item) = view.ready item
 IsReadyFor view (Outcome told) = ⊤
 
--- the machine's own limit stands against this entry
-abbrev pub IsOver : {I : Type 0} → MachineView I → Entry I → Type 0
-IsOver view (Item item) = view.over item
-IsOver view (Outcome told) = ⊥
+-- the machine's own limit leaves no room for this entry
+abbrev pub IsOverFor : {I : Type 0} → MachineView I → Entry I → Type 0
+IsOverFor view (Item item) = view.over item
+IsOverFor view (Outcome told) = ⊥
 
 -- nothing but its room has changed
 pub record KeepsAllButReady {I : Type 0} (old new : MachineView I) : Type 0 where
@@ -44,5 +44,6 @@ GoesOn {I} rules old new e = (Z : List ℕ) (H : List (Entry I)) → Lawful rule
 pub record Agrees {I : Type 0} (rules : Rules I) (view : MachineView I) : Type 0 where
   pub due : (Z : List ℕ) (H : List (Entry I)) → Lawful rules Z H → view.shows Z H → view.due ≡ rules.pending Z H
   pub allowed : (Z : List ℕ) (H : List (Entry I)) (e : Entry I) → Lawful rules Z H → view.shows Z H → view.allowed e ↔ Allowed rules Z H e
+  pub over : (Z : List ℕ) (H : List (Entry I)) (item : I) → Lawful rules Z H → view.shows Z H → view.over item ↔ rules.over Z H item
   pub outcome : (told : Told) → view.allowed (Outcome told) ↔ IsSome view.due
   pub item : (item : I) → view.allowed (Item item) → view.due ≡ None

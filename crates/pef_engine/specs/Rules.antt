@@ -18,6 +18,8 @@ pub record Rules (I : Type 0) : Type 1 where
   pub pending : List ℕ → List (Entry I) → Option Step
   -- the machine's own rule of which items may come
   pub may_take : List ℕ → List (Entry I) → I → Type 0
+  -- a limit of the machine's own leaves no room for this item behind a history
+  pub over : List ℕ → List (Entry I) → I → Type 0
   -- getting ready for an item may take memory
   pub takes_memory : Bool
 
@@ -33,6 +35,20 @@ IsOutcome (Outcome told) = ⊤
 abbrev pub Allowed : {I : Type 0} → Rules I → List ℕ → List (Entry I) → Entry I → Type 0
 Allowed rules Z H (Item item) = (rules.pending Z H ≡ None) × rules.may_take Z H item
 Allowed rules Z H (Outcome told) = IsSome (rules.pending Z H)
+
+-- the machine's own limit leaves no room for this entry behind H
+abbrev pub IsOver : {I : Type 0} → Rules I → List ℕ → List (Entry I) → Entry I → Type 0
+IsOver rules Z H (Item item) = rules.over Z H item
+IsOver rules Z H (Outcome told) = ⊥
+
+-- behind H the machine's own limit left room for each of these entries where it stands
+abbrev pub NoneOver : {I : Type 0} → Rules I → List ℕ → List (Entry I) → List (Entry I) → Type 0
+NoneOver rules Z H [] = ⊤
+NoneOver rules Z H (e ∷ K) = (IsOver rules Z H e → ⊥) × NoneOver rules Z (H ++ e ∷ []) K
+
+-- one of the entries of this history is an item for which the machine's own limit left no room
+abbrev pub WasOver : {I : Type 0} → Rules I → List ℕ → List (Entry I) → Type 0
+WasOver {I} rules Z H = (before : List (Entry I)) × (e : Entry I) × (after : List (Entry I)) × (H ≡ before ++ e ∷ after) × IsOver rules Z before e
 
 -- behind H each of these entries is allowed where it stands
 abbrev pub LawfulFrom : {I : Type 0} → Rules I → List ℕ → List (Entry I) → List (Entry I) → Type 0
@@ -68,3 +84,15 @@ pub record BreaksAt {I : Type 0} (rules : Rules I) (at : ℕ) (file : List ℕ) 
   pub reaches : image.ReachesGate rules.kind settings (map rules.encode before) at file
   pub broken : image.IsCorruptAt file at
       ⊎ ((payload : List ℕ) × image.HasEntryAt file at payload × ((e : Entry I) → rules.is_entry e → rules.encode e ≡ payload → Allowed rules settings before e → ⊥))
+
+-- The file has entries of a lawful history, and behind them one that may come and for which the machine's own limit leaves no room.
+pub record HasOver {I : Type 0} (rules : Rules I) (file : List ℕ) : Type 0 where
+  pub settings : List ℕ
+  pub before : List (Entry I)
+  pub lawful : Lawful rules settings before
+  pub at : ℕ
+  pub reaches : image.ReachesGate rules.kind settings (map rules.encode before) at file
+  pub next : Entry I
+  pub has : image.HasEntryAt file at (rules.encode next)
+  pub allowed : Allowed rules settings before next
+  pub over : IsOver rules settings before next

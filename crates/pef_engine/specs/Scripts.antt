@@ -1,20 +1,11 @@
 -- What scripts mean to a machine.
-use Rattle.std.specs.Prelude.{◌≡◌, ⊤, ℕ, ◌+◌, ◌≤◌, ◌<◌, true, false, if◌then◌else◌, IsFalse, List, [], ◌∷◌, ◌++◌, Option, Some, None}
+use Rattle.std.specs.Prelude.{◌≡◌, ◌↔◌, ⊤, ℕ, ◌+◌, ◌≤◌, ◌<◌, true, false, if◌then◌else◌, IsTrue, IsFalse, List, [], ◌∷◌, Option, Some, None, IfSome, IsSomeAnd}
 use Rattle.pef_engine.specs.declared.entry.Entry.{Entry}
 use Rattle.pef_engine.specs.declared.entry.Entry.TheVariants.{Item, Outcome}
 use Rattle.pef_engine.specs.declared.script.Script.{Script}
-use Rattle.pef_engine.specs.Rules.{Rules, Lawful}
-
--- what a machine's scripts say to it, and what it says of the items that it takes
-pub record ScriptRules (I : Type 0) : Type 1 where
-  -- the script that was opened last in a history
-  pub script_of : List (Entry I) → Option Script
-  -- the items that open and close a script, and the item of an event line
-  pub opening : ℕ → ℕ → I
-  pub closing : I
-  pub event : List ℕ → I
-  -- the report's line of an item that comes behind a history under these settings
-  pub item_line : List ℕ → List (Entry I) → I → List ℕ
+use Rattle.pef_engine.specs.declared.script.ScriptStep.{ScriptStep}
+use Rattle.pef_engine.specs.declared.script.ScriptStep.TheVariants.{Opens, Takes, Closes}
+use Rattle.pef_engine.specs.Rules.{Rules}
 
 -- one item more was taken from the script, unless it is closed
 abbrev pub one_taken : Option Script → Option Script
@@ -26,10 +17,42 @@ abbrev pub closed : Option Script → Option Script
 closed None = None
 closed (Some script) = Some (record script { closed = true })
 
--- a script is open, and more of its items are to come
-abbrev pub IsUnfinished : Option Script → Type 0
-IsUnfinished None = ⊥
-IsUnfinished (Some script) = IsFalse script.closed
+-- the script behind an item, where this one was opened last before it
+abbrev pub script_with : Option Script → ScriptStep → Option Script
+script_with script (Opens id count) = Some (record { id = id; count = count; taken = 0; closed = false })
+script_with script Takes = one_taken script
+script_with script Closes = closed script
+
+-- Which items may come, by the script that was opened last: an item of a script where none is unfinished or the unfinished one has
+-- items left; the opening of one of at most 1,000,000 items where none is unfinished; its closing once all were taken.
+abbrev pub MayCome : Option Script → ScriptStep → Type 0
+MayCome script (Opens id count) = IfSome script (λ s. IsTrue s.closed) × (count ≤ 1_000_000)
+MayCome script Takes = IfSome script (λ s. IsFalse s.closed → s.taken < s.count)
+MayCome script Closes = IsSomeAnd script (λ s. IsFalse s.closed × (s.taken ≡ s.count))
+
+-- what a machine's scripts say to it, and what it says of the items that it takes
+pub record ScriptRules (I : Type 0) : Type 1 where
+  -- the first word of a script
+  pub word : List ℕ
+  -- the items that open and close a script
+  pub opening : ℕ → ℕ → I
+  pub closing : I
+  -- the item of a line between head and end, and None where the line is bad
+  pub item_of : List ℕ → Option I
+  -- what an item does to the script that was opened last
+  pub step : I → ScriptStep
+  -- the report's line of an item that comes behind a history under these settings
+  pub item_line : List ℕ → List (Entry I) → I → List ℕ
+
+-- the script that was opened last, where this one was before these entries
+abbrev pub script_from : {I : Type 0} → ScriptRules I → Option Script → List (Entry I) → Option Script
+script_from scripts script [] = script
+script_from scripts script (Item item ∷ H) = script_from scripts (script_with script (scripts.step item)) H
+script_from scripts script (Outcome told ∷ H) = script_from scripts script H
+
+-- the script that was opened last in a history
+abbrev pub script_of : {I : Type 0} → ScriptRules I → List (Entry I) → Option Script
+script_of scripts H = script_from scripts None H
 
 -- the script that is unfinished has this count, of which so many items were taken
 abbrev pub Awaits : Option Script → ℕ → ℕ → Type 0
@@ -43,11 +66,7 @@ IsWithin (Some script) = (script.taken ≤ script.count) × (script.count ≤ 1_
 
 -- a machine's rule of which items may come is the rule of scripts
 pub record IsScripted {I : Type 0} (rules : Rules I) (scripts : ScriptRules I) : Type 0 where
-  pub behind_outcome : (H : List (Entry I)) (told : _) → scripts.script_of (H ++ Outcome told ∷ []) ≡ scripts.script_of H
-  pub behind_event : (H : List (Entry I)) (octets : List ℕ) → scripts.script_of (H ++ Item (scripts.event octets) ∷ []) ≡ one_taken (scripts.script_of H)
-  pub behind_opening : (H : List (Entry I)) (id count : ℕ) → scripts.script_of (H ++ Item (scripts.opening id count) ∷ []) ≡ Some (record { id = id; count = count; taken = 0; closed = false })
-  pub behind_closing : (H : List (Entry I)) → scripts.script_of (H ++ Item scripts.closing ∷ []) ≡ closed (scripts.script_of H)
-  pub within : (Z : List ℕ) (H : List (Entry I)) → Lawful rules Z H → IsWithin (scripts.script_of H)
-  pub event_may : (Z : List ℕ) (H : List (Entry I)) (octets : List ℕ) (count taken : ℕ) → rules.is_entry (Item (scripts.event octets)) → Awaits (scripts.script_of H) count taken → taken < count → rules.may_take Z H (scripts.event octets)
-  pub opening_may : (Z : List ℕ) (H : List (Entry I)) (id count : ℕ) → rules.is_entry (Item (scripts.opening id count)) → (IsUnfinished (scripts.script_of H) → ⊥) → count ≤ 1_000_000 → rules.may_take Z H (scripts.opening id count)
-  pub closing_may : (Z : List ℕ) (H : List (Entry I)) (count : ℕ) → Awaits (scripts.script_of H) count count → rules.may_take Z H scripts.closing
+  pub opens : (id count : ℕ) → scripts.step (scripts.opening id count) ≡ Opens id count
+  pub closes : scripts.step scripts.closing ≡ Closes
+  pub takes : (line : List ℕ) (item : I) → scripts.item_of line ≡ Some item → scripts.step item ≡ Takes
+  pub may : (Z : List ℕ) (H : List (Entry I)) (item : I) → rules.may_take Z H item ↔ (MayCome (script_of scripts H) (scripts.step item) × rules.is_entry (Item item))

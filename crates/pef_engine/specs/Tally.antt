@@ -44,6 +44,7 @@ tally_rules = record {
   encode = tally_encode;
   pending = λ Z H. step_of (due_after true false H);
   may_take = λ Z H octet. octet < 100;
+  over = λ Z H octet. ⊥;
   takes_memory = false;
 }
 
@@ -88,6 +89,7 @@ pub tally_agrees : (even due : Bool) → Agrees tally_rules (tally_view even due
 tally_agrees even due = record {
   due = λ Z H lawful shows. ap step_of shows.due_is;
   allowed = agree;
+  over = λ Z H item lawful shows. (λ a. a, λ a. a);
   outcome = λ told. (λ a. a, λ a. a);
   item = λ item allowed. allowed.0;
 }

@@ -6,6 +6,7 @@ mod entry;
 mod faults;
 mod laws;
 mod machine;
+mod marks;
 mod replay;
 mod script;
 mod scripted;
@@ -15,8 +16,9 @@ pub use entry::Entry;
 pub use faults::{EngineFault, MachineFault};
 pub use laws::{calls_law, lives_law};
 pub use machine::Machine;
-pub use script::Script;
-pub use scripted::{ReportLine, Scripted};
+pub use marks::{Mark, read_mark, write_mark};
+pub use script::{Script, ScriptStep, may_come, script_behind};
+pub use scripted::Scripted;
 
 #[cfg(test)]
 mod tests;

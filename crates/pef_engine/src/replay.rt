@@ -1,13 +1,8 @@
 //! Opening an engine: the entries of the file are replayed.
-ghost use Rattle.std.specs.Prelude.{◌≡◌, ◌⊎◌, ℕ, List, [], ◌∷◌, length, IfOk, OnOk, IfErr, IsErr, IsErrOf, IsTrue, Result};
-ghost use Rattle.board_core.specs.Causes.{Rose};
-ghost use Rattle.board_core.specs.Board.{SyncsFirst, NeverSynced, IsFileRun};
-ghost use Rattle.pef_journal.specs.Image.{IsForKind};
-ghost use Rattle.pef_journal.specs.Journal.{LeavesAsRead};
+ghost use Rattle.std.specs.Prelude.{◌≡◌, ℕ, List, length, IsErrOf};
 ghost use Rattle.pef_engine.specs.declared.entry.Entry.{Entry};
-ghost use Rattle.pef_engine.specs.Rules.{Rules, Lawful, Stands, StandsForSome};
-ghost use Rattle.pef_engine.specs.MachineView.{MachineView};
-ghost use Rattle.pef_engine.specs.Engine.{IsLive, HasPlace, AfterOpen, ShowsSome, HasCorruptCause};
+ghost use Rattle.pef_engine.specs.Rules.{Lawful};
+ghost use Rattle.pef_engine.specs.Engine.{Opens, ReplaysOne};
 
 use crate::engine::{Engine, make_ready};
 use crate::faults::EngineFault;
@@ -20,24 +15,11 @@ use std::alloc::Global;
 const SETTINGS_ROOM: usize = 64;
 
 impl<M: Machine> Engine<M> {
-    /// Syncs, and replays the file's entries; it writes nothing. `NotFormatted` and `Corrupt` come only where the file stands for no
-    /// lawful history, and then it isn't opened; `Memory` where there is none for the machine, or for one of the entries, and `Full`
-    /// only where the machine's own limit stands against one.
+    /// Syncs, and replays the file's entries; it writes nothing. `NotFormatted` and `Corrupt` come only where the file isn't a valid
+    /// state file of the machine's kind, and then it isn't opened; `Memory` where there is none for the machine or for one of the
+    /// entries, and `Full` only where the machine's own limit leaves no room for one.
     pub fn open<B: Board>(alloc: Global, board: &mut B) -> Result<Engine<M>, EngineFault>
-        ensures opened { IsTrue (B.view board.new).tells → (Z : List ℕ) (H : List (Entry M.Item)) →
-            Lawful M.rules Z H → Stands M.rules Z H (B.view board.old).octets →
-            AfterOpen M.rules M.view Z H (B.view board.old) (B.view board.new) result }
-        ensures stands { IsTrue (B.view board.new).tells → OnOk result (StandsForSome M.rules (B.view board.old).octets) }
-        ensures unformatted { IsTrue (B.view board.new).tells → IsErrOf result EngineFault.NotFormatted → IsForKind M.rules.kind (B.view board.old).octets → ⊥ }
-        ensures corrupt { IsTrue (B.view board.new).tells → IfErr result (HasCorruptCause M.rules (B.view board.old).octets) }
-        ensures moments { IsTrue (B.view board.new).tells →
-            NeverSynced (B.view board.old) (B.view board.new) ⊎ SyncsFirst (B.view board.old) (B.view board.new) (LeavesAsRead (B.view board.old)) }
-        ensures octets { IsTrue (B.view board.new).tells → (B.view board.new).octets ≡ (B.view board.old).octets }
-        ensures run { IsFileRun (B.view board.old) (B.view board.new) }
-        ensures live { IfOk result (λ engine. IsLive engine × HasPlace (B.view board.new) engine) }
-        ensures shows { IfOk result (λ engine. ShowsSome M.rules (M.view engine.machine)) }
-        ensures full { IsErrOf result EngineFault.Full → (machine : M) × (item : M.Item) × (M.view machine).over item }
-        ensures disk { IsErrOf result EngineFault.DiskFault → Rose (B.view board.old).disk_faults (B.view board.new).disk_faults }
+        ensures { Opens M.rules M.view (B.view board.old) (B.view board.new) result }
     {
         let mut settings = [0u8; SETTINGS_ROOM];
         Self::replay(alloc, board, &mut settings[..M::settings_length()])
@@ -50,20 +32,7 @@ impl<M: Machine> Engine<M> {
         settings: &mut [u8],
     ) -> Result<Engine<M>, EngineFault>
         requires { length settings.old ≡ M.rules.settings }
-        ensures opened { IsTrue (B.view board.new).tells → (Z : List ℕ) (H : List (Entry M.Item)) →
-            Lawful M.rules Z H → Stands M.rules Z H (B.view board.old).octets →
-            AfterOpen M.rules M.view Z H (B.view board.old) (B.view board.new) result }
-        ensures stands { IsTrue (B.view board.new).tells → OnOk result (StandsForSome M.rules (B.view board.old).octets) }
-        ensures unformatted { IsTrue (B.view board.new).tells → IsErrOf result EngineFault.NotFormatted → IsForKind M.rules.kind (B.view board.old).octets → ⊥ }
-        ensures corrupt { IsTrue (B.view board.new).tells → IfErr result (HasCorruptCause M.rules (B.view board.old).octets) }
-        ensures moments { IsTrue (B.view board.new).tells →
-            NeverSynced (B.view board.old) (B.view board.new) ⊎ SyncsFirst (B.view board.old) (B.view board.new) (LeavesAsRead (B.view board.old)) }
-        ensures octets { IsTrue (B.view board.new).tells → (B.view board.new).octets ≡ (B.view board.old).octets }
-        ensures run { IsFileRun (B.view board.old) (B.view board.new) }
-        ensures live { IfOk result (λ engine. IsLive engine × HasPlace (B.view board.new) engine) }
-        ensures shows { IfOk result (λ engine. ShowsSome M.rules (M.view engine.machine)) }
-        ensures full { IsErrOf result EngineFault.Full → (machine : M) × (item : M.Item) × (M.view machine).over item }
-        ensures disk { IsErrOf result EngineFault.DiskFault → Rose (B.view board.old).disk_faults (B.view board.new).disk_faults }
+        ensures { Opens M.rules M.view (B.view board.old) (B.view board.new) result }
     {
         let mut journal = Journal::open(board, M::kind(), settings)?;
         let mut machine = M::fresh(alloc, settings)?;
@@ -73,19 +42,33 @@ impl<M: Machine> Engine<M> {
             if !journal.entry(board, &mut payload)? {
                 break 'entries;
             }
-            let Some(entry) = M::decode_entry(payload.as_slice()) else {
-                return Err(EngineFault::Corrupt { at: gate });
-            };
-            if !machine.allows(&entry) {
-                return Err(EngineFault::Corrupt { at: gate });
-            }
-            make_ready(&mut machine, &entry)?;
-            machine.apply(&entry);
+            replay_one(&mut machine, payload.as_slice(), gate)?;
         }
         Ok(Engine {
             machine,
             journal,
             live: true,
         })
+    }
+}
+
+// Goes on with the entry of these octets, which stands behind this gate.
+fn replay_one<M: Machine>(machine: &mut M, octets: &[u8], gate: u64) -> Result<(), EngineFault>
+    ensures replays { (Z : List ℕ) (H : List (Entry M.Item)) → Lawful M.rules Z H → (M.view machine.old).shows Z H →
+        ReplaysOne M.rules (M.view machine.new) Z H octets.now gate result }
+    ensures never { (IsErrOf result EngineFault.DiskFault → ⊥) × (IsErrOf result EngineFault.NotFormatted → ⊥) }
+{
+    let Some(entry) = M::decode_entry(octets) else {
+        return Err(EngineFault::Corrupt { at: gate });
+    };
+    if !machine.allows(&entry) {
+        return Err(EngineFault::Corrupt { at: gate });
+    }
+    match make_ready(machine, &entry) {
+        Ok(()) => {
+            machine.apply(&entry);
+            Ok(())
+        }
+        Err(fault) => Err(fault),
     }
 }

@@ -1,10 +1,9 @@
-pub mod RunLemmas
-pub mod ReportLemmas
-pub mod Moves
-pub mod RoomLemmas
-pub mod ScriptsLemmas
-pub mod TakesLemmas
-pub mod PlayLemmas
-pub mod TopLemmas
-pub mod Lacks
+mod Shared
+mod GoingLemmas
+mod LineLemmas
+mod ScriptsLemmas
+mod TakesLemmas
+mod PlayLemmas
+mod TopLemmas
 pub mod EndLemmas
+mod PerformLemmas

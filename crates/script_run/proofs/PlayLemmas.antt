@@ -1,342 +1,352 @@
 -- A whole script.
-use Rattle.std.proofs.Common.{◌≡◌, ◌⊎◌, inl, inr, ℕ, ◌+◌, ◌≤◌, List, [], ◌∷◌, ◌++◌, length, Option, Some, None, IsTrue, refl, sym, ◌∙◌, ap, subst, arith, append_assoc, length-append, Result, Ok, Err, IfOk, Bool, true, false, ◌&&◌, nat_eq}
-use Rattle.std.specs.Prelude.{IsErrOf, IsSome, IfSome}
-use Rattle.std.proofs.lemmas.List.{append-nil}
+use Rattle.std.proofs.Common.{◌≡◌, inl, inr, ℕ, suc, ◌+◌, ◌<◌, ◌≤◌, List, [], ◌∷◌, ◌++◌, length, Option, Some, None, refl, sym, ◌∙◌, ap, subst, arith, append_assoc, Result, Ok, Err, false, ◌&&◌, nat_eq, nat_le, if◌then◌else◌}
+use Rattle.std.specs.Prelude.{IsErrOf, IsSome, IsSomeAnd, IfOk, IsTrue}
 use Rattle.std.proofs.lemmas.Bool.Decides.{nat_tests}
-use Rattle.board_core.specs.Board.{BoardView, IsSound, LeavesOnly}
-use Rattle.script_text.specs.Lines.{lines_of}
-use Rattle.script_text.specs.Reading.{HasLeft}
-use Rattle.script_text.specs.Script.{Said, bad_line, said_of, said_of_lines, said_by, HasNoForm, HasForm}
-use Rattle.script_text.specs.declared.form.Form.{Form}
-use Rattle.pef_journal.proofs.Moments.{leaves_map}
 use Rattle.pef_engine.specs.declared.entry.Entry.{Entry}
-use Rattle.pef_engine.specs.declared.entry.Entry.TheVariants.{Item}
-use Rattle.pef_engine.specs.declared.engine.Engine.{Engine}
 use Rattle.pef_engine.specs.declared.script.Script.{Script}
-use Rattle.pef_engine.specs.Rules.{Rules}
-use Rattle.pef_engine.specs.MachineView.{MachineView, Agrees}
-use Rattle.pef_engine.specs.CrashFree.{LeavesPrefix}
-use Rattle.pef_engine.specs.Engine.{Holds}
-use Rattle.script_run.specs.declared.stop.Stop.{Stop}
-use Rattle.script_run.specs.declared.stop.Stop.TheVariants.{Unformatted, Line, Unfinished, Input, Disk, Output, Full, Memory}
+use Rattle.pef_engine.specs.declared.script.ScriptStep.TheVariants.{Opens}
+use Rattle.pef_engine.specs.Rules.{Rules, Lawful}
+use Rattle.pef_engine.specs.MachineView.{MachineView}
+use Rattle.pef_engine.specs.Scripts.{ScriptRules, IsScripted, MayCome, Awaits, IsWithin, script_with, script_of}
+use Rattle.script_text.specs.Lines.{lines_of, behind_line, behind_lines}
+use Rattle.script_text.specs.Reading.{HasLeft, FailsWithin}
+use Rattle.script_text.specs.Forms.{words_of}
+use Rattle.script_text.specs.Script.{Said, Given, given, said_of, said_of_lines, said_by, head_of, head_of_words, bad_line, lines_in}
+use Rattle.script_text.specs.declared.head.Head.{Head}
+use Rattle.script_run.specs.declared.stop.StepStop.{StepStop}
+use Rattle.script_run.specs.declared.stop.LineStop.{LineStop}
+use Rattle.script_run.specs.declared.stop.LineStop.TheVariants.{Step, Line, Input as InputFailed}
+use Rattle.script_run.specs.declared.stop.ScriptStop.{ScriptStop}
+use Rattle.script_run.specs.declared.stop.ScriptStop.TheVariants.{Lines, Unfinished}
 use Rattle.script_run.specs.declared.course.Course.{Course}
 use Rattle.script_run.specs.declared.course.Course.TheVariants.{Over, GoesOn, Begins}
-use Rattle.pef_engine.specs.Scripts.{ScriptRules, IsScripted, Awaits, IsUnfinished, IsWithin}
-use Rattle.script_run.specs.Items.{is_same, IsOther, items_after, items_of_text, rest_of}
-use Rattle.script_run.specs.Run.{Runs, StopsFull, Reports, RunsGiven, IsTaken, Answers, MovesOn, IsReadyFor}
-use Rattle.script_run.specs.Course.{IsCourse, IsAnother, GivesCourse, GivesHead, TakesCourse, items_on}
-use Rattle.script_run.specs.Playing.{Plays}
-use Rattle.script_run.proofs.RunLemmas.{runs_start, runs_compose, more_items, moments_after}
-use Rattle.script_run.proofs.ReportLemmas.{if_err_map, reports_now, reports_behind, reports_more}
-use Rattle.script_run.proofs.RoomLemmas.{full_behind, comes_more}
-use Rattle.script_run.proofs.ScriptsLemmas.{script_keeps, script_one}
-use Rattle.script_run.proofs.TakesLemmas.{IsFault, fault_given}
+use Rattle.script_run.specs.Items.{IsOther, items_after, rest_of, text_says}
+use Rattle.script_run.specs.Going.{Kind, World, Goes, Moved}
+use Rattle.script_run.specs.Lines.{Input, input, Unread, step_in, Answers, Reads, HasRead, FailsBefore, Ran, IsReadyFor, GivesHead}
+use Rattle.script_run.specs.Course.{IsCourse, IsAnother, GivesCourse, TakesCourse, items_on}
+use Rattle.script_run.specs.Playing.{widen, script_step, IsUnread, NamesOther, Plays}
+use Rattle.script_run.proofs.GoingLemmas.{goes_then}
+use Rattle.script_run.proofs.LineLemmas.{front_line, ends-append}
+use Rattle.script_run.proofs.ScriptsLemmas.{script_behind, lawful_within}
 
 -- what line 1 says
-pub said_form : (text held : List ℕ) (source : Option (List ℕ)) (form : Form) (gives : HasForm text held source form) → said_of text ≡ said_by (Some form) (lines_of gives.rest)
-said_form text held source form gives = ap said_of_lines gives.lines ∙ ap (λ f. said_by f (lines_of gives.rest)) gives.has
+pub head_says : {I : Type 0} (word : List ℕ) (item_of : List ℕ → Option I) (text line : List ℕ) (behind : List (List ℕ)) (o : Option Head) → lines_of text ≡ line ∷ behind → head_of word line ≡ o → said_of word item_of text ≡ said_by item_of o behind
+head_says word item_of text line behind o lines is = ap (said_of_lines word item_of) lines ∙ ap (λ h. said_by item_of h behind) is
 
-pub said_none : (lines : List (List ℕ)) → HasNoForm lines → said_of_lines lines ≡ None
-said_none [] none = refl
-said_none (line ∷ lines) none = ap (λ f. said_by f lines) none
+pub long_head : (word line : List ℕ) → 1200 < length line → head_of word line ≡ None
+long_head word line long = let test : nat_le (length line) 1200 ≡ false = grind (arith, nat_tests) in ap (λ b. if b then head_of_words word (words_of line) else None) test
 
-module _ {I M : Type 0} (rules : Rules I) (view : M → MachineView I) (says : List ℕ → List (Entry I) → Entry I → List ℕ) (Z : List ℕ) (H : List (Entry I)) where
-  -- more items behind those that stopped it
-  full_more : (items rest all : List I) (start now : BoardView) (engine : Engine M I) (before after : Option (List ℕ)) → StopsFull rules view says Z H items start now engine before after → items ++ rest ≡ all
-      → StopsFull rules view says Z H all start now engine before after
-  full_more items rest all start now engine before after q is = record {
-    so_far = q.so_far;
-    more = q.more ++ rest;
-    split = sym (append_assoc q.so_far q.more rest) ∙ ap (λ l. l ++ rest) q.split ∙ is;
-    runs = q.runs;
-    next = q.next;
-    comes = comes_more rules view says Z H (H ++ q.runs.entries) q.more rest q.next q.comes;
-    too_much = q.too_much;
+module _ {I M : Type 0} (k : Kind I M) where
+  -- a step stopped it among these items, and nothing was read
+  pub ran_stops : {old new : World I M} {from : Input} {lines : ℕ} {all : List ℕ → List I} {bad : List ℕ → Option ℕ} {items : List I} (stop : StepStop) → Goes k old new items (Some stop) → length from.held ≤ 256
+      → ((text : List ℕ) → Unread from text → (more : List I) × (items ++ more ≡ all text)) → Ran k old new from from lines all bad (Err (Step stop))
+  ran_stops {items = items} stop goes held split = record {
+    so_far = items;
+    goes = goes;
+    idle = λ read. absurd read;
+    reads = record { later = omega arith; failed = λ e. absurd (cc e); same = λ not. refl; held = held };
+    given = λ text unread. let s = split text unread in record { more = s.0; split = s.1; read = λ read. absurd {0} read; answers = tt; number = tt };
+    far = λ text unread. tt;
   }
 
-  -- the first of the items is not taken, or not settled
-  pub first_fails : (items rest all : List I) (bad : Option ℕ) (start now : BoardView) (engine : Engine M I) (before after : Option (List ℕ)) (stop : Stop) → IsFault stop → LeavesOnly start now (LeavesPrefix rules Z H start.sent items)
-      → (stop ≡ Full → StopsFull rules view says Z H items start now engine before after) → Reports rules says Z H items now before after stop → items ++ rest ≡ all → RunsGiven rules view says Z H all bad start now engine before after (Err stop)
-  first_fails items rest all bad start now engine before after stop fault m full q is =
-      fault_given rules view says Z H all bad start now engine before after stop fault
-      (leaves_map start now (LeavesPrefix rules Z H start.sent items) (LeavesPrefix rules Z H start.sent all) (λ left p. subst (λ i. LeavesPrefix rules Z H start.sent i left) is (more_items rules view says Z H start items rest left p)) m)
-      (λ e. full_more items rest all start now engine before after (full e) is) (reports_more rules view says Z H items rest all now before after stop q is)
+  -- behind settling the rest was run
+  pub ran_settled : {old mid new : World I M} {from to : Input} {lines : ℕ} {all : List ℕ → List I} {bad : List ℕ → Option ℕ} (result : Result ℕ LineStop) → Goes k old mid [] None → Ran k mid new from to lines all bad result → Ran k old new from to lines all bad result
+  ran_settled result goes r = record { so_far = r.so_far; goes = goes_then k goes r.goes; idle = r.idle; reads = r.reads; given = r.given; far = r.far }
 
-  -- what is run behind some items
-  pub given_behind : (items more all : List I) (bad : Option ℕ) (start now new : BoardView) (engine next : Engine M I) (one two three : Option (List ℕ)) (n m : Result ℕ Stop) (p : Runs rules view says Z H items start now engine one two)
-      → RunsGiven rules view says Z (H ++ p.entries) more bad now new next two three n → items ++ more ≡ all → (m ≡ n × items ≡ []) ⊎ ((k : ℕ) × (n ≡ Ok k) × (m ≡ Ok (length items + k)))
-      → RunsGiven rules view says Z H all bad start new next one three m
-  given_behind items more all bad start now new engine next one two three n m p q is (inl same) = subst (λ r. RunsGiven rules view says Z H all bad start new next one three r) (sym same.0) (record {
-    answers = q.answers;
-    number = subst (λ l. IfOk n (λ k. k ≡ length l)) (ap (λ i. i ++ more) (sym same.1) ∙ is) q.number;
-    moments = moments_after rules view says Z H items more [] all start now new engine one two p q.moments (ap (λ l. items ++ l) (append-nil more) ∙ is);
-    runs = λ t. subst (λ i. Runs rules view says Z H i start new next one three) is (runs_compose rules view says Z H items more start now new engine next one two three p (q.runs t));
-    full = λ e. full_behind rules view says Z H items more [] all start now new engine next one two three p (q.full e) (ap (λ l. items ++ l) (append-nil more) ∙ is);
-    reports = if_err_map n (λ stop r. reports_behind rules view says Z H items more [] all start now new engine one two three stop p r (ap (λ l. items ++ l) (append-nil more) ∙ is)) q.reports;
-  })
-  given_behind items more all bad start now new engine next one two three n m p q is (inr ended) =
-      let r = subst (λ x. RunsGiven rules view says Z (H ++ p.entries) more bad now new next two three x) ended.1 q in
-      subst (λ x. RunsGiven rules view says Z H all bad start new next one three x) (sym ended.2) (record {
-        answers = r.answers;
-        number = ap (λ k. length items + k) r.number ∙ sym (length-append items more) ∙ ap length is;
-        moments = moments_after rules view says Z H items more [] all start now new engine one two p r.moments (ap (λ l. items ++ l) (append-nil more) ∙ is);
-        runs = λ t. subst (λ i. Runs rules view says Z H i start new next one three) is (runs_compose rules view says Z H items more start now new engine next one two three p (r.runs tt));
-        full = λ err. absurd (cc err);
-        reports = tt;
-      })
-
-  -- a fault behind some items
-  pub fails_behind : (items more all : List I) (bad : Option ℕ) (start now new : BoardView) (engine next : Engine M I) (one two three : Option (List ℕ)) (stop : Stop) (p : Runs rules view says Z H items start now engine one two)
-      → RunsGiven rules view says Z (H ++ p.entries) more bad now new next two three (Err stop) → items ++ more ≡ all → RunsGiven rules view says Z H all bad start new next one three (Err stop)
-  fails_behind items more all bad start now new engine next one two three stop p q is = record {
-    answers = q.answers;
-    number = tt;
-    moments = moments_after rules view says Z H items more [] all start now new engine one two p q.moments (ap (λ l. items ++ l) (append-nil more) ∙ is);
-    runs = λ t. subst (λ i. Runs rules view says Z H i start new next one three) is (runs_compose rules view says Z H items more start now new engine next one two three p (q.runs t));
-    full = λ e. full_behind rules view says Z H items more [] all start now new engine next one two three p (q.full e) (ap (λ l. items ++ l) (append-nil more) ∙ is);
-    reports = reports_behind rules view says Z H items more [] all start now new engine one two three stop p q.reports (ap (λ l. items ++ l) (append-nil more) ∙ is);
+  -- behind one item the rest was run, and stopped
+  pub ran_behind : {old mid new : World I M} {from to : Input} {lines : ℕ} {all : List ℕ → List I} {bad : List ℕ → Option ℕ} (item same : I) → item ≡ same → (stop : LineStop) → Goes k old mid (item ∷ []) None → Ran k mid new from to lines all bad (Err stop)
+      → Ran k old new from to lines (λ text. same ∷ all text) bad (Err stop)
+  ran_behind {all = all} item same is stop goes r = record {
+    so_far = item ∷ r.so_far;
+    goes = goes_then k goes r.goes;
+    idle = r.idle;
+    reads = r.reads;
+    given = λ text unread. let g = r.given text unread in record { more = g.more; split = ap (λ l. item ∷ l) g.split ∙ ap (λ i. i ∷ all text) is; read = g.read; answers = g.answers; number = tt };
+    far = r.far;
   }
 
-  -- nothing more was taken
-  pub given_none : (bad : Option ℕ) (start now : BoardView) (engine : Engine M I) (before after : Option (List ℕ)) (p : Runs rules view says Z H [] start now engine before after) → bad ≡ None
-      → RunsGiven rules view says Z H [] bad start now engine before after (Ok 0)
-  given_none bad start now engine before after p good = record {
-    answers = good;
-    number = refl;
-    moments = p.moments;
-    runs = λ t. p;
-    full = λ err. absurd (cc err);
-    reports = tt;
+  -- and came to its end
+  pub ran_all : {old mid new : World I M} {from to : Input} {lines : ℕ} {all : List ℕ → List I} {bad : List ℕ → Option ℕ} (item same : I) → item ≡ same → (n : ℕ) → Goes k old mid (item ∷ []) None → Ran k mid new from to lines all bad (Ok n)
+      → Ran k old new from to lines (λ text. same ∷ all text) bad (Ok (n + 1))
+  ran_all {all = all} item same is n goes r = record {
+    so_far = item ∷ r.so_far;
+    goes = goes_then k goes r.goes;
+    idle = r.idle;
+    reads = record { later = r.reads.later; failed = λ e. absurd (cc e); same = λ not. r.reads.same (λ e. cc e); held = r.reads.held };
+    given = λ text unread. let g = r.given text unread in record { more = g.more; split = ap (λ l. item ∷ l) g.split ∙ ap (λ i. i ∷ all text) is; read = g.read; answers = g.answers; number = omega (arith, g.number) };
+    far = r.far;
   }
 
-  pub stops_none : (bad : Option ℕ) (start now : BoardView) (engine : Engine M I) (before after : Option (List ℕ)) (stop : Stop) (p : Runs rules view says Z H [] start now engine before after) → Answers {A = ℕ} bad (Err stop) → (stop ≡ Full → ⊥)
-      → RunsGiven rules view says Z H [] bad start now engine before after (Err stop)
-  stops_none bad start now engine before after stop p answers not_full = record {
-    answers = answers;
-    number = tt;
-    moments = p.moments;
-    runs = λ t. p;
-    full = λ err. absurd (not_full (cc err));
-    reports = reports_now rules view says Z H [] [] [] start now engine before after stop p refl;
+  -- the course by another name
+  pub ran_on : {old new : World I M} {from to : Input} {lines : ℕ} {bad : List ℕ → Option ℕ} {result : Result ℕ LineStop} (id count : ℕ) (course other : Course) → course ≡ other
+      → Ran k old new from to lines (λ text. items_on k.scripts id count (given k.scripts.item_of (lines_of text) count 2) other) bad result → Ran k old new from to lines (λ text. items_on k.scripts id count (given k.scripts.item_of (lines_of text) count 2) course) bad result
+  ran_on {old} {new} {from} {to} {lines} {bad} {result} id count course other is r =
+      subst (λ c. Ran k old new from to lines (λ text. items_on k.scripts id count (given k.scripts.item_of (lines_of text) count 2) c) bad result) (sym is) r
+
+  no_steps : (result : Result ℕ LineStop) → ((stop : StepStop) → IsErrOf result (Step stop) → ⊥) → step_in result ≡ None
+  no_steps (Ok n) none = refl
+  no_steps (Err (Step stop)) none = absurd (none stop refl)
+  no_steps (Err (Line number)) none = refl
+  no_steps (Err InputFailed) none = refl
+
+  -- the lines of a closed script were read
+  pub ran_over : {old new : World I M} {from to : Input} {lines : ℕ} {bad : List ℕ → Option ℕ} (result : Result ℕ LineStop) → Goes k old new [] None → (k.view new.engine.machine).due ≡ None → Reads from to result
+      → ((text : List ℕ) → Unread from text → Answers (bad text) result) → ((text : List ℕ) → Unread from text → HasRead lines text to result) → ((stop : StepStop) → IsErrOf result (Step stop) → ⊥) → IfOk result (λ n. n ≡ 0)
+      → Ran k old new from to lines (λ text. []) bad result
+  ran_over {old} {new} result goes due reads answers far none number = record {
+    so_far = [];
+    goes = subst (Goes k old new []) (sym (no_steps result none)) goes;
+    idle = λ read. due;
+    reads = reads;
+    given = λ text unread. record { more = []; split = refl; read = λ read. refl; answers = answers text unread; number = number };
+    far = far;
   }
 
-  -- a script that was closed before
-  pub over_given : (bad : Option ℕ) (start now : BoardView) (engine : Engine M I) (before after : Option (List ℕ)) (result : Result ℕ Stop) (p : Runs rules view says Z H [] start now engine before after) → Answers bad result → IfOk result (λ n. n ≡ 0) → (IsErrOf result Disk → ⊥) × (IsErrOf result Output → ⊥) × (IsErrOf result Full → ⊥) × (IsErrOf result Memory → ⊥) × (IsErrOf result Unformatted → ⊥) × ((id count : ℕ) → IsErrOf result (Unfinished id count) → ⊥)
-      → RunsGiven rules view says Z H [] bad start now engine before after result
-  over_given bad start now engine before after (Ok n) p answers none other = record { answers = answers; number = none; moments = p.moments; runs = λ t. p; full = λ err. absurd (cc err); reports = tt }
-  over_given bad start now engine before after (Err stop) p answers none other = record { answers = answers; number = tt; moments = p.moments; runs = λ t. p; full = λ err. absurd (other.2 err); reports = reports_now rules view says Z H [] [] [] start now engine before after stop p refl }
+module _ {I : Type 0} (rules : Rules I) (scripts : ScriptRules I) (scripted : IsScripted rules scripts) (old new : MachineView I) (id count : ℕ) where
+  -- settling leaves the course as it is
+  pub course_keeps : (course : Course) → TakesCourse rules scripts old id count course → ((Z : List ℕ) (H : List (Entry I)) → Lawful rules Z H → old.shows Z H → Moved rules new Z H []) → TakesCourse rules scripts new id count course
+  course_keeps course takes moves =
+      let m = moves takes.settings takes.history takes.lawful takes.shows in record {
+        settings = takes.settings;
+        history = takes.history ++ m.entries;
+        lawful = m.lawful;
+        shows = m.shows;
+        stands = subst (λ s. IsCourse s id count course) (sym (script_behind scripts takes.history m.entries [] m.taken)) takes.stands;
+      }
 
--- where line 1 isn't a head, nothing was taken behind a good line 1
-pub head_not : (text held : List ℕ) (source : Option (List ℕ)) (stop : Stop) → GivesHead text held source (Err stop) → IsSome (said_of text) → IsTaken {A = ℕ} (Err stop) → ⊥
-head_not text held source (Line number) gives some taken = cc (gives.1, some)
-head_not text held source Input gives some taken = taken
-head_not text held source Unformatted gives some taken = taken
-head_not text held source (Unfinished id count) gives some taken = taken
-head_not text held source Disk gives some taken = taken
-head_not text held source Output gives some taken = taken
-head_not text held source Full gives some taken = taken
-head_not text held source Memory gives some taken = taken
+  -- an opening may come
+  pub may_open : (script : Option Script) → IsCourse script id count Begins → count ≤ 1000000 → MayCome script (Opens id count)
+  may_open None course few = (tt, few)
+  may_open (Some s) course few = (course.0, few)
 
--- a reader that holds nothing has all of the text before it
+  -- and behind it all items are awaited
+  pub ready_opened : (item : I) → item ≡ scripts.opening id count → (Z : List ℕ) (H : List (Entry I)) → Moved rules new Z H (item ∷ []) → new.due ≡ None → IsReadyFor rules scripts new count 0
+  ready_opened item is Z H m idle = record {
+    settings = Z;
+    history = H ++ m.entries;
+    lawful = m.lawful;
+    shows = m.shows;
+    idle = idle;
+    awaits = subst (λ s. Awaits s count 0) (sym (script_behind scripts H m.entries (item ∷ []) m.taken ∙ ap (script_with (script_of scripts H)) (ap scripts.step is ∙ scripted.opens id count))) (refl, refl, refl);
+  }
+
+is_that : (a b c d : ℕ) → IsTrue (nat_eq a b && nat_eq c d) → (a ≡ b) × (c ≡ d)
+is_that a b c d same = grind (arith, nat_tests)
+
+module _ {I : Type 0} (rules : Rules I) (scripts : ScriptRules I) (view : MachineView I) (id count taken : ℕ) where
+  -- an unfinished script goes on behind the items that were taken
+  pub ready_on : TakesCourse rules scripts view id count (GoesOn taken) → view.due ≡ None → IsReadyFor rules scripts view count taken
+  ready_on takes idle = record { settings = takes.settings; history = takes.history; lawful = takes.lawful; shows = takes.shows; idle = idle; awaits = by (script_of scripts takes.history) takes.stands }
+    where
+      by : (script : Option Script) → IsCourse script id count (GoesOn taken) → Awaits script count taken
+      by None stands = absurd stands
+      by (Some s) stands = (stands.0, (is_that s.id id s.count count stands.1).1, stands.2)
+
+  pub taken_few : IsScripted rules scripts → TakesCourse rules scripts view id count (GoesOn taken) → taken ≤ count
+  taken_few scripted takes = by (script_of scripts takes.history) takes.stands (lawful_within rules scripts scripted takes.settings takes.history takes.lawful)
+    where
+      by : (script : Option Script) → IsCourse script id count (GoesOn taken) → IsWithin script → taken ≤ count
+      by None stands within = absurd stands
+      by (Some s) stands within = omega (arith, (is_that s.id id s.count count stands.1).1, stands.2, within.0)
+
+-- a read that failed behind the first line
+fails_behind : (lines : ℕ) (text : List ℕ) (source : Option (List ℕ)) → FailsBefore lines (behind_line text) source → FailsBefore (suc lines) text source
+fails_behind lines text source f =
+    let first = front_line text in record {
+      left = f.left;
+      unread = f.unread;
+      front = first.0 ++ f.front;
+      whole = first.1 ∙ ap (λ l. first.0 ++ l) f.whole ∙ sym (append_assoc first.0 f.front f.left);
+      few = omega (arith, ends-append first.0 f.front, first.2, f.few);
+    }
+
+far_behind : (count : ℕ) (text : List ℕ) (to : Input) (result : Result ℕ LineStop) → HasRead (count + 1) (behind_line text) to result → HasRead (count + 2) text to result
+far_behind count text to (Ok n) far = let e : suc (count + 1) ≡ count + 2 = omega arith in subst (λ m. Unread to (behind_lines m text)) e far
+far_behind count text to (Err InputFailed) far = let e : suc (count + 1) ≡ count + 2 = omega arith in subst (λ m. FailsBefore m text to.left) e (fails_behind (count + 1) text to.left far)
+far_behind count text to (Err (Line number)) far = tt
+far_behind count text to (Err (Step stop)) far = tt
+
+failed_far : (count : ℕ) (text : List ℕ) (to : Input) (result : Result ℕ LineStop) → result ≡ Err InputFailed → HasRead (count + 2) text to result → FailsBefore (count + 2) text to.left
+failed_far count text to result is far = subst (HasRead (count + 2) text to) is far
+
+fails_first : (lines : ℕ) (text : List ℕ) (source : Option (List ℕ)) → 0 < lines → FailsWithin text source → FailsBefore lines text source
+fails_first lines text source some f = record { left = f.left; unread = f.unread; front = f.front; whole = f.whole; few = omega (arith, f.no_end, some) }
+
+some_lines : {I : Type 0} (said : Option (Said I)) → 0 < lines_in said
+some_lines None = omega arith
+some_lines (Some said) = omega arith
+
+-- the items that are still to come are those of the course
+items_are : {I : Type 0} (scripts : ScriptRules I) (script : Option Script) (id count : ℕ) (g : Given I) (course : Course) → IsCourse script id count course → items_after scripts script (Some (record { id = id; count = count; given = g })) ≡ items_on scripts id count g course
+items_are scripts None id count g Begins course = refl
+items_are scripts None id count g Over course = absurd course
+items_are scripts None id count g (GoesOn taken) course = absurd course
+items_are scripts (Some s) id count g Begins course = rw course.0 (rw course.1 refl)
+items_are scripts (Some s) id count g Over course = rw course.0 (rw course.1 refl)
+items_are scripts (Some s) id count g (GoesOn taken) course = rw course.0 (rw course.1 (ap (λ n. rest_of scripts n g) course.2))
+
+no_other : {I : Type 0} (script : Option Script) (id count : ℕ) (g : Given I) (course : Course) → IsCourse script id count course → IsOther script (Some (record { id = id; count = count; given = g })) → ⊥
+no_other None id count g course is other = other
+no_other (Some s) id count g Begins is other = cc (is.0, other.0)
+no_other (Some s) id count g Over is other = cc (is.0, other.0)
+no_other (Some s) id count g (GoesOn taken) is other = cc (is.1, other.1)
+
+no_other_none : (I : Type 0) (script : Option Script) → IsOther {I = I} script None → ⊥
+no_other_none I None other = other
+no_other_none I (Some s) other = other
+
+none_some : {A : Type 0} (o : Option A) → o ≡ None → IsSome o → ⊥
+none_some None e some = cc some
+none_some (Some x) e some = cc e
+
+names_other : (s : Option Script) (id count : ℕ) → IsSomeAnd s (λ x. (x.id ≡ id) × (x.count ≡ count)) → NamesOther s (Err (Unfinished id count))
+names_other None id count is = is
+names_other (Some x) id count is = rw (is.0, is.1) refl
+
+other_is : {I : Type 0} (script : Option Script) (id count their_id their_count : ℕ) (g : Given I) → IsAnother script id count their_id their_count
+    → IsOther script (Some (record { id = id; count = count; given = g })) × IsSomeAnd script (λ s. (s.id ≡ their_id) × (s.count ≡ their_count))
+other_is None id count their_id their_count g another = absurd another
+other_is (Some s) id count their_id their_count g another = ((another.0, another.1), (another.2, another.3))
+
+module _ {I M : Type 0} (k : Kind I M) where
+  -- line 1 stopped it
+  pub plays_first : {w : World I M} {from : Input} (to : Input) (stop : LineStop) → ((text : List ℕ) → Unread from text → GivesHead k.scripts text to (Err stop)) → Reads {A = Head} from to (Err stop) → ((step : StepStop) → stop ≡ Step step → ⊥)
+      → Goes k w w [] None → Plays k w w from to (Err (Lines stop))
+  plays_first to (Line number) head reads no_step goes = record {
+    so_far = [];
+    goes = goes;
+    later = reads.later;
+    failed = λ e. absurd (cc e);
+    same = λ not. reads.same (λ e. cc e);
+    held = reads.held;
+    played = λ Z H lawful shows text unread.
+        let h = head text unread in
+        let script = script_of k.scripts H in
+        let none_other : IsOther script (text_says k.scripts text) → ⊥ = λ other. no_other_none I script (subst (IsOther script) h.1 other) in record {
+          refused = λ other. absurd (none_other other);
+          other = λ id count e. absurd (cc e);
+          unread = λ e. absurd (cc e);
+          headless = λ none. inr (ap (λ n. Err (Lines (Line n))) h.0);
+          ran = λ not. (
+            Err (Line number),
+            refl,
+            record { more = []; split = sym (ap (items_after k.scripts script) h.1); read = λ read. refl; answers = ap bad_line h.1 ∙ ap Some (sym h.0); number = tt },
+            tt,
+            λ some read. absurd (none_some (text_says k.scripts text) h.1 some),
+          );
+        };
+  }
+  plays_first to InputFailed head reads no_step goes = record {
+    so_far = [];
+    goes = goes;
+    later = reads.later;
+    failed = λ e. reads.failed refl;
+    same = λ not. absurd (not refl);
+    held = reads.held;
+    played = λ Z H lawful shows text unread. record {
+      refused = λ other. (refl, inl refl);
+      unread = λ e. fails_first (lines_in (text_says k.scripts text)) text to.left (some_lines (text_says k.scripts text)) (head text unread);
+      other = λ id count e. absurd (cc e);
+      headless = λ none. inl refl;
+      ran = λ not. (
+        Err InputFailed,
+        refl,
+        record { more = items_after k.scripts (script_of k.scripts H) (text_says k.scripts text); split = refl; read = λ read. absurd {0} read; answers = tt; number = tt },
+        fails_first (lines_in (text_says k.scripts text)) text to.left (some_lines (text_says k.scripts text)) (head text unread),
+        λ some read. absurd read,
+      );
+    };
+  }
+  plays_first to (Step step) head reads no_step goes = absurd (no_step step refl)
+
+  module _ {w : World I M} {from : Input} (mid : Input) (head : Head) (heads : (text : List ℕ) → Unread from text → GivesHead k.scripts text mid (Ok head)) (reads : Reads {A = Head} from mid (Ok head)) (script : Option Script)
+      (opened : (Z : List ℕ) (H : List (Entry I)) → Lawful k.rules Z H → (k.view w.engine.machine).shows Z H → script ≡ script_of k.scripts H) where
+    -- another script is unfinished
+    pub plays_another : (stop : ScriptStop) → GivesCourse script head.id head.count (Err stop) → Goes k w w [] None → Plays k w w from mid (Err stop)
+    plays_another (Unfinished id count) gives goes = record {
+      so_far = [];
+      goes = goes;
+      later = reads.later;
+      failed = λ e. absurd (cc e);
+      same = λ not. reads.same (λ e. cc e);
+      held = reads.held;
+      played = λ Z H lawful shows text unread.
+          let h = heads text unread in
+          let s = script_of k.scripts H in
+          let two = other_is s head.id head.count id count (given k.scripts.item_of (lines_of (behind_line text)) head.count 2) (subst (λ x. IsAnother x head.id head.count id count) (opened Z H lawful shows) gives) in
+          let other : IsOther s (text_says k.scripts text) = subst (IsOther s) (sym h.1) two.0 in record {
+            refused = λ o. (refl, inr (names_other s id count two.1));
+            unread = λ e. absurd (cc e);
+            other = λ i c e. other;
+            headless = λ none. absurd (let clash : Some _ ≡ None = sym h.1 ∙ none in cc clash);
+            ran = λ not. absurd (not other);
+          };
+    }
+    plays_another (Lines stop) gives goes = absurd gives
+
+    -- its lines were run
+    pub plays_on : {new : World I M} (to : Input) (course : Course) (lines : Result ℕ LineStop) → IsCourse script head.id head.count course
+        → Ran k w new mid to (head.count + 1) (λ text. items_on k.scripts head.id head.count (given k.scripts.item_of (lines_of text) head.count 2) course) (λ text. (given k.scripts.item_of (lines_of text) head.count 2).bad) lines
+        → Plays k w new from to (widen lines)
+    plays_on {new} to course lines is r = record {
+      so_far = r.so_far;
+      goes = subst (Goes k w new r.so_far) (same_step lines) r.goes;
+      later = omega (arith, reads.later, r.reads.later);
+      failed = λ e. omega (arith, reads.later, r.reads.failed (narrow lines e));
+      same = λ not. r.reads.same (λ e. not (ap widen e)) ∙ reads.same (λ e. cc e);
+      held = r.reads.held;
+      played = λ Z H lawful shows text unread.
+          let h = heads text unread in
+          let s = script_of k.scripts H in
+          let rest = behind_line text in
+          let g = given k.scripts.item_of (lines_of rest) head.count 2 in
+          let takes : IsCourse s head.id head.count course = subst (λ x. IsCourse x head.id head.count course) (opened Z H lawful shows) is in
+          let not_other : IsOther s (text_says k.scripts text) → ⊥ = λ o. no_other s head.id head.count g course takes (subst (IsOther s) h.1 o) in record {
+            refused = λ o. absurd (not_other o);
+            other = λ id count e. absurd (not_unfinished lines id count e);
+            unread = λ e. subst (λ n. FailsBefore n text to.left) (sym (ap lines_in h.1)) (failed_far head.count text to lines (narrow lines e) (far_behind head.count text to lines (r.far rest h.0)));
+            headless = λ none. absurd (let clash : Some _ ≡ None = sym h.1 ∙ none in cc clash);
+            ran = λ not. (
+              lines,
+              refl,
+              let i = r.given rest h.0 in record {
+                more = i.more;
+                split = i.split ∙ sym (ap (items_after k.scripts s) h.1 ∙ items_are k.scripts s head.id head.count g course takes);
+                read = i.read;
+                answers = subst (λ b. Answers b lines) (sym (ap bad_line h.1)) i.answers;
+                number = subst (λ l. IfOk lines (λ n. n ≡ length l)) (sym (ap (items_after k.scripts s) h.1 ∙ items_are k.scripts s head.id head.count g course takes)) i.number;
+              },
+              subst (λ n. HasRead n text to lines) (sym (ap lines_in h.1)) (far_behind head.count text to lines (r.far rest h.0)),
+              λ some read. r.idle read,
+            );
+          };
+    }
+      where
+        same_step : (lines : Result ℕ LineStop) → step_in lines ≡ script_step (widen lines)
+        same_step (Ok n) = refl
+        same_step (Err (Step stop)) = refl
+        same_step (Err (Line number)) = refl
+        same_step (Err InputFailed) = refl
+
+        narrow : (lines : Result ℕ LineStop) → IsUnread (widen lines) → lines ≡ Err InputFailed
+        narrow (Ok n) e = absurd (cc e)
+        narrow (Err stop) e = cc e
+
+        not_unfinished : (lines : Result ℕ LineStop) (id count : ℕ) → widen lines ≡ Err (Unfinished id count) → ⊥
+        not_unfinished (Ok n) id count e = cc e
+        not_unfinished (Err stop) id count e = cc e
+
+-- a reader that holds nothing
+pub starts : {I M : Type 0} {k : Kind I M} {old new : World I M} {to : Input} {result : Result ℕ ScriptStop} {held : List ℕ} (left : Option (List ℕ)) (faults : ℕ) → held ≡ [] → Plays k old new (input held left faults) to result → Plays k old new (input [] left faults) to result
+starts {k = k} {old} {new} {to} {result} left faults is p = subst (λ h. Plays k old new (input h left faults) to result) is p
+
 pub reader_left : (held : List ℕ) (source : Option (List ℕ)) (text : List ℕ) → held ≡ [] → source ≡ Some text → HasLeft held source text
 reader_left held source text none left = record { rest = text; unread = left; whole = ap (λ h. h ++ text) (sym none) }
 
-same_numbers : (a b x y : ℕ) → IsTrue (nat_eq a x && nat_eq b y) → (a ≡ x) × (b ≡ y)
-same_numbers a b x y test = both (nat_eq a x) (nat_eq b y) refl refl test
-  where
-    both : (s t : Bool) → s ≡ nat_eq a x → t ≡ nat_eq b y → IsTrue (s && t) → (a ≡ x) × (b ≡ y)
-    both true true p q test =
-        let p' : nat_eq a x ≡ true = sym p in
-        let q' : nat_eq b y ≡ true = sym q in
-        (grind (arith, nat_tests), grind (arith, nat_tests))
-    both true false p q test = absurd (cc test)
-    both false t p q test = absurd (cc test)
+-- behind a head line 1 is one, and no other script is unfinished where its course is known
+pub is_head : {A : Type 0} {o : Option A} {x : A} → o ≡ Some x → o ≡ None → ⊥
+is_head is none = let clash : Some _ ≡ None = sym is ∙ none in cc clash
 
-module _ {I : Type 0} (rules : Rules I) (scripts : ScriptRules I) (scripted : IsScripted rules scripts) where
-  -- the course stays while steps are settled
-  pub course_keeps : (old new : MachineView I) (id count : ℕ) (course : Course) → TakesCourse rules scripts old id count course → MovesOn rules old new [] → TakesCourse rules scripts new id count course
-  course_keeps old new id count course t moves =
-      let m = moves t.settings t.history t.lawful t.shows in record {
-        settings = t.settings;
-        history = t.history ++ m.entries;
-        lawful = m.lawful;
-        shows = m.shows;
-        stands = subst (λ s. IsCourse s id count course) (sym (script_keeps rules scripts scripted t.history m.entries m.taken)) t.stands;
-      }
-
-  goes_on : (script : Option Script) (id count taken : ℕ) → IsCourse script id count (GoesOn taken) → IsWithin script → Awaits script count taken × (taken ≤ count)
-  goes_on None id count taken course within = absurd course
-  goes_on (Some s) id count taken course within =
-      let same = same_numbers s.id s.count id count course.1 in
-      ((course.0, same.1, course.2), omega (arith, same.1, course.2, within.0))
-
-  -- where it goes on, so many items were taken
-  pub ready_there : (view : MachineView I) (id count taken : ℕ) (t : TakesCourse rules scripts view id count (GoesOn taken)) → view.due ≡ None → IsReadyFor rules scripts view count taken
-  ready_there view id count taken t idle = record {
-    settings = t.settings;
-    history = t.history;
-    lawful = t.lawful;
-    shows = t.shows;
-    idle = idle;
-    awaits = (goes_on (scripts.script_of t.history) id count taken t.stands (scripted.within t.settings t.history t.lawful)).0;
-  }
-
-  pub taken_within : (view : MachineView I) (id count taken : ℕ) → TakesCourse rules scripts view id count (GoesOn taken) → taken ≤ count
-  taken_within view id count taken t = (goes_on (scripts.script_of t.history) id count taken t.stands (scripted.within t.settings t.history t.lawful)).1
-
-  none_open : (script : Option Script) (id count : ℕ) → IsCourse script id count Begins → IsUnfinished script → ⊥
-  none_open None id count course unfinished = unfinished
-  none_open (Some s) id count course unfinished = cc (course.0, unfinished)
-
-  module _ (old : MachineView I) (agrees : Agrees rules old) (id count : ℕ) (t : TakesCourse rules scripts old id count Begins) (idle : old.due ≡ None) where
-    -- a script may be opened
-    pub opening_allowed : (item : I) → item ≡ scripts.opening id count → rules.is_entry (Item item) → count ≤ 1000000 → old.allowed (Item item)
-    opening_allowed item is entry within =
-        (agrees.allowed t.settings t.history (Item item) t.lawful t.shows).1 (
-          sym (agrees.due t.settings t.history t.lawful t.shows) ∙ idle,
-          subst (λ i. rules.may_take t.settings t.history i) (sym is)
-              (scripted.opening_may t.settings t.history id count (subst (λ i. rules.is_entry (Item i)) is entry) (none_open (scripts.script_of t.history) id count t.stands) within),
-        )
-
-    -- and then none of its items was taken
-    pub ready_opened : (new : MachineView I) (item : I) → item ≡ scripts.opening id count → MovesOn rules old new (item ∷ []) → new.due ≡ None → IsReadyFor rules scripts new count 0
-    ready_opened new item is moves idle' =
-        let m = moves t.settings t.history t.lawful t.shows in
-        let script = script_one rules scripts scripted (λ s. Some (record { id = id; count = count; taken = 0; closed = false })) (scripts.opening id count) (λ G. scripted.behind_opening G id count) t.history m.entries (m.taken ∙ ap (λ i. i ∷ []) is) in record {
-          settings = t.settings;
-          history = t.history ++ m.entries;
-          lawful = m.lawful;
-          shows = m.shows;
-          idle = idle';
-          awaits = subst (λ s. Awaits s count 0) (sym script) (refl, refl, refl);
-        }
-
--- what another unfinished script says
-another : (script : Option Script) (said : Said) (id count their_id their_count : ℕ) → said.id ≡ id → said.count ≡ count → IsAnother script id count their_id their_count → IsOther script (Some said)
-another None said id count their_id their_count same same' is = is
-another (Some s) said id count their_id their_count same same' is = (is.0, ap (λ i. is_same s i said.count) same ∙ ap (λ n. is_same s id n) same' ∙ is.1)
-
-another_named : (script : Option Script) (id count their_id their_count : ℕ) → IsAnother script id count their_id their_count → IfSome script (λ s. (s.id ≡ their_id) × (s.count ≡ their_count))
-another_named None id count their_id their_count is = tt
-another_named (Some s) id count their_id their_count is = (is.2, is.3)
-
-pub none_of_other : {I : Type 0} (scripts : ScriptRules I) (script : Option Script) (said : Option Said) → IsOther script said → items_after scripts script said ≡ []
-none_of_other scripts None said other = absurd other
-none_of_other scripts (Some s) None other = absurd other
-none_of_other scripts (Some s) (Some said) other = rw other.0 (rw other.1 refl)
-
-not_other : (script : Option Script) (said : Said) (course : Course) → IsCourse script said.id said.count course → IsOther script (Some said) → ⊥
-not_other None said course is other = other
-not_other (Some s) said Begins is other = absurd (cc (is.0, other.0))
-not_other (Some s) said Over is other = absurd (cc (is.0, other.0))
-not_other (Some s) said (GoesOn taken) is other = absurd (cc (is.1, other.1))
-
-on_course : {I : Type 0} (scripts : ScriptRules I) (script : Option Script) (said : Said) (course : Course) → IsCourse script said.id said.count course → items_on scripts said.id said.count said.given course ≡ items_after scripts script (Some said)
-on_course scripts None said Begins is = refl
-on_course scripts None said Over is = absurd is
-on_course scripts None said (GoesOn taken) is = absurd is
-on_course scripts (Some s) said Begins is = rw is.0 (rw is.1 refl)
-on_course scripts (Some s) said Over is = rw is.0 (rw is.1 refl)
-on_course scripts (Some s) said (GoesOn taken) is = rw is.0 (rw is.1 (ap (λ t. rest_of scripts t said.given) (sym is.2)))
-
-module _ {I M : Type 0} (rules : Rules I) (view : M → MachineView I) (says : List ℕ → List (Entry I) → Entry I → List ℕ) (scripts : ScriptRules I) (Z : List ℕ) (H : List (Entry I)) (text : List ℕ) (start : BoardView) (sound : IsSound start) (tells : IsTrue start.tells)
-    (engine : Engine M I) (written : Option (List ℕ)) (holds : Holds rules view Z H start engine) where
-  -- line 1 is bad, or can't be read
-  pub plays_bad : said_of text ≡ None → Plays rules view says scripts Z H text start start engine written written (Err (Line 1))
-  plays_bad none =
-      let items : [] ≡ items_of_text scripts text H = sym (ap (items_after scripts (scripts.script_of H)) none) in
-      let r = subst (λ i. Runs rules view says Z H i start start engine written written) items (runs_start rules view says Z H start engine written sound tells holds) in
-      let report = reports_now rules view says Z H (items_of_text scripts text H) [] (items_of_text scripts text H) start start engine written written (Line 1) r (append-nil (items_of_text scripts text H)) in record {
-        runs = λ not. record {
-          answers = ap bad_line none;
-          number = tt;
-          moments = r.moments;
-          runs = λ t. r;
-          full = λ err. absurd (cc err);
-          reports = report;
-        };
-        moments = r.moments;
-        refuses = λ other. absurd (never (scripts.script_of H) (subst (IsOther (scripts.script_of H)) none other));
-        other = λ id count e. absurd (cc e);
-        headless = λ none. tt;
-        full = λ err. absurd (cc err);
-        reports = report;
-      }
-    where
-      never : (script : Option Script) → IsOther script None → ⊥
-      never None other = other
-      never (Some s) other = other
-
-  no_none : (said : Said) → Some said ≡ None → ⊥
-  no_none said e = cc e
-
-  start_moments : (items : List I) → LeavesOnly start start (LeavesPrefix rules Z H start.sent items)
-  start_moments items =
-      let r = runs_start rules view says Z H start engine written sound tells holds in
-      leaves_map start start (LeavesPrefix rules Z H start.sent []) (LeavesPrefix rules Z H start.sent items) (λ left p. more_items rules view says Z H start [] items left p) r.moments
-
-  nothing_reported : (stop : Stop) → Reports rules says Z H (items_of_text scripts text H) start written written stop
-  nothing_reported stop = reports_now rules view says Z H [] (items_of_text scripts text H) (items_of_text scripts text H) start start engine written written stop (runs_start rules view says Z H start engine written sound tells holds) refl
-
-  -- another script is unfinished
-  pub plays_other : (said : Said) → said_of text ≡ Some said → (id count : ℕ) → IsAnother (scripts.script_of H) said.id said.count id count → Plays rules view says scripts Z H text start start engine written written (Err (Unfinished id count))
-  plays_other said is id count names =
-      let other = subst (IsOther (scripts.script_of H)) (sym is) (another (scripts.script_of H) said said.id said.count id count refl refl names) in record {
-        runs = λ not. absurd (not other);
-        moments = start_moments (items_of_text scripts text H);
-        refuses = λ o. (another_named (scripts.script_of H) said.id said.count id count names, runs_start rules view says Z H start engine written sound tells holds);
-        other = λ i c e. other;
-        headless = λ none. absurd (no_none said (sym is ∙ none));
-        full = λ err. absurd (cc err);
-        reports = nothing_reported (Unfinished id count);
-      }
-
-  -- the source fails at line 1
-  pub plays_input : Plays rules view says scripts Z H text start start engine written written (Err Input)
-  plays_input = record {
-    runs = λ not. fault_given rules view says Z H (items_of_text scripts text H) (bad_line (said_of text)) start start engine written written Input tt (start_moments (items_of_text scripts text H)) (λ e. absurd (cc e)) (nothing_reported Input);
-    moments = start_moments (items_of_text scripts text H);
-    refuses = λ other. (tt, runs_start rules view says Z H start engine written sound tells holds);
-    other = λ id count e. absurd (cc e);
-    headless = λ none. tt;
-    full = λ err. absurd (cc err);
-    reports = nothing_reported Input;
-  }
-
-  -- the script takes its course
-  pub plays_on : (said : Said) → said_of text ≡ Some said → (course : Course) → IsCourse (scripts.script_of H) said.id said.count course → (now : BoardView) (next : Engine M I) (after : Option (List ℕ)) (result : Result ℕ Stop)
-      → RunsGiven rules view says Z H (items_on scripts said.id said.count said.given course) said.given.bad start now next written after result → ((id count : ℕ) → result ≡ Err (Unfinished id count) → ⊥) → Plays rules view says scripts Z H text start now next written after result
-  plays_on said is course on now next after result r never =
-      let items : items_on scripts said.id said.count said.given course ≡ items_of_text scripts text H = on_course scripts (scripts.script_of H) said course on ∙ sym (ap (items_after scripts (scripts.script_of H)) is) in
-      let bad : said.given.bad ≡ bad_line (said_of text) = sym (ap bad_line is) in
-      let q = subst (λ b. RunsGiven rules view says Z H (items_of_text scripts text H) b start now next written after result) bad (subst (λ i. RunsGiven rules view says Z H i said.given.bad start now next written after result) items r) in record {
-        runs = λ not. q;
-        moments = q.moments;
-        refuses = λ other. absurd (not_other (scripts.script_of H) said course on (subst (IsOther (scripts.script_of H)) is other));
-        other = λ id count e. absurd (never id count e);
-        headless = λ none. absurd (no_none said (sym is ∙ none));
-        full = λ err other. not_other (scripts.script_of H) said course on (subst (IsOther (scripts.script_of H)) is other);
-        reports = q.reports;
-      }
-
-  -- line 1 isn't a head
-  pub plays_head : (held : List ℕ) (source : Option (List ℕ)) (stop : Stop) → GivesHead text held source (Err stop) → Plays rules view says scripts Z H text start start engine written written (Err stop)
-  plays_head held source (Line number) gives = subst (λ n. Plays rules view says scripts Z H text start start engine written written (Err (Line n))) (sym gives.0) (plays_bad gives.1)
-  plays_head held source Input gives = plays_input
-  plays_head held source Unformatted gives = absurd gives
-  plays_head held source (Unfinished id count) gives = absurd gives
-  plays_head held source Disk gives = absurd gives
-  plays_head held source Output gives = absurd gives
-  plays_head held source Full gives = absurd gives
-  plays_head held source Memory gives = absurd gives
-
-  -- the script is refused
-  pub plays_refused : (said : Said) → said_of text ≡ Some said → (stop : Stop) → GivesCourse (scripts.script_of H) said.id said.count (Err stop) → Plays rules view says scripts Z H text start start engine written written (Err stop)
-  plays_refused said is (Unfinished id count) gives = plays_other said is id count gives
-  plays_refused said is (Line number) gives = absurd gives
-  plays_refused said is Input gives = absurd gives
-  plays_refused said is Unformatted gives = absurd gives
-  plays_refused said is Disk gives = absurd gives
-  plays_refused said is Output gives = absurd gives
-  plays_refused said is Full gives = absurd gives
-  plays_refused said is Memory gives = absurd gives
+pub is_course : {I : Type 0} (scripts : ScriptRules I) (text : List ℕ) (its : Option Script) (head : Head) (g : Given I) (course : Course) → text_says scripts text ≡ Some (record { id = head.id; count = head.count; given = g }) → IsCourse its head.id head.count course
+    → IsOther its (text_says scripts text) → ⊥
+is_course scripts text its head g course says is other = no_other its head.id head.count g course is (subst (IsOther its) says other)

@@ -1,278 +1,256 @@
--- A run of lines, one line more.
-use Rattle.std.proofs.Common.{◌≡◌, ℕ, zero, suc, ◌+◌, ◌-◌, ◌<◌, List, [], ◌∷◌, ◌++◌, length, Option, Some, None, IsTrue, is_some, refl, sym, ◌∙◌, ap, subst, arith, append_assoc, length-append, Ok, Err}
+-- The lines of a script, one line more.
+use Rattle.std.proofs.Common.{◌≡◌, ◌⊎◌, ⊎_elim, ℕ, zero, suc, ◌+◌, ◌-◌, ◌<◌, List, [], ◌∷◌, ◌++◌, length, length-append, drop, Option, Some, None, refl, sym, ◌∙◌, ap, subst, arith, append_assoc, Result, Ok, Err}
 use Rattle.std.proofs.lemmas.List.{append-nil}
-use Rattle.std.specs.Prelude.{IsSome, ◌↔◌}
-use Rattle.board_core.specs.Board.{BoardView, IsSound, LeavesOnly}
-use Rattle.script_text.specs.Lines.{lines_of}
-use Rattle.script_text.specs.Reading.{HasLeft}
-use Rattle.script_text.specs.Script.{Given, given, given_by, give_event, bad_at, form_of_line, HasNoForm}
-use Rattle.script_text.specs.declared.form.Form.TheVariants.{Head, Event as EventForm, End}
-use Rattle.pef_engine.specs.declared.entry.Entry.{Entry}
-use Rattle.pef_engine.specs.declared.engine.Engine.{Engine}
-use Rattle.pef_engine.specs.Rules.{Rules}
-use Rattle.pef_engine.specs.MachineView.{MachineView}
-use Rattle.pef_engine.specs.CrashFree.{LeavesPrefix}
-use Rattle.pef_engine.specs.Engine.{Holds}
-use Rattle.script_run.specs.declared.stop.Stop.{Stop}
-use Rattle.script_run.specs.declared.stop.Stop.TheVariants.{Unformatted, Line, Unfinished, Input, Disk, Output, Full, Memory}
+use Rattle.script_text.specs.Lines.{lines_of, behind_line, behind_lines}
+use Rattle.script_text.specs.Reading.{FailsWithin}
+use Rattle.script_text.specs.Script.{Given, given, give_item}
 use Rattle.pef_engine.specs.Scripts.{ScriptRules}
+use Rattle.script_run.specs.declared.stop.StepStop.{StepStop}
+use Rattle.script_run.specs.declared.stop.LineStop.{LineStop}
+use Rattle.script_run.specs.declared.stop.LineStop.TheVariants.{Step, Line, Input as InputFailed}
 use Rattle.script_run.specs.Items.{rest_of, closing_of}
-use Rattle.script_run.specs.Taking.{GivesOne, GivesEvent}
-use Rattle.script_run.specs.Run.{Runs, StopsFull, Reports, IsTaken, Answers, RunsGiven, Takes, Passes, IsStepStop}
-use Rattle.script_run.proofs.RunLemmas.{runs_start, runs_compose, moments_of, moments_after}
-use Rattle.script_run.proofs.ReportLemmas.{reports_now, reports_behind}
-use Rattle.script_run.proofs.RoomLemmas.{full_behind}
+use Rattle.script_run.specs.Going.{Kind, World, Goes}
+use Rattle.script_run.specs.Lines.{Input, Unread, Reads, GivesItem, FailsBefore, Answers, HasRead, Ran, Passes, Stands, Takes}
+use Rattle.script_run.proofs.LineLemmas.{front_line, ends-append}
+use Rattle.script_run.proofs.GoingLemmas.{goes_then}
 
--- what a line gives
-pub given_event : (text rest : List ℕ) (line octets : List ℕ) (left number : ℕ) → lines_of text ≡ line ∷ lines_of rest → form_of_line line ≡ Some (EventForm octets) → 0 < left
-    → given (lines_of text) left number ≡ give_event octets (given (lines_of rest) (left - 1) (number + 1))
-given_event text rest line octets zero number lines form some = absurd (omega (arith, some))
-given_event text rest line octets (suc left) number lines form some =
-    let e : left ≡ suc left - 1 = omega arith in
-    ap (λ l. given l (suc left) number) lines ∙ ap (λ f. given_by f (suc left) number (λ fewer. given (lines_of rest) fewer (number + 1))) form
-    ∙ ap (λ n. give_event octets (given (lines_of rest) n (number + 1))) e
+pub reads_ok : {A B : Type 0} {from at to : Input} {x : A} (result : Result B LineStop) → at.faults ≡ from.faults → Reads {A = A} at to (Ok x) → (result ≡ Err InputFailed → ⊥) → Reads from to result
+reads_ok result same r not = record {
+  later = omega (arith, same, r.later);
+  failed = λ e. absurd (not e);
+  same = λ n. r.same (λ e. cc e) ∙ same;
+  held = r.held;
+}
 
-pub given_too_many : (text rest line octets : List ℕ) (left number : ℕ) → lines_of text ≡ line ∷ lines_of rest → form_of_line line ≡ Some (EventForm octets) → left ≡ 0 → given (lines_of text) left number ≡ bad_at number
-given_too_many text rest line octets left number lines form none =
-    ap (λ l. given l left number) lines ∙ ap (λ f. given_by f left number (λ fewer. given (lines_of rest) fewer (number + 1))) form
-    ∙ ap (λ n. given_by (Some (EventForm octets)) n number (λ fewer. given (lines_of rest) fewer (number + 1))) none
+pub reads_err : {A B : Type 0} {from at to : Input} (stop : LineStop) → at.faults ≡ from.faults → Reads {A = A} at to (Err stop) → Reads {A = B} from to (Err stop)
+reads_err stop same r = record {
+  later = omega (arith, same, r.later);
+  failed = λ e. omega (arith, same, r.failed (let is : stop ≡ InputFailed = cc e in ap Err is));
+  same = λ not. r.same (λ e. not (let is : stop ≡ InputFailed = cc e in ap Err is)) ∙ same;
+  held = r.held;
+}
 
-pub given_too_few : (text rest line : List ℕ) (left number : ℕ) → lines_of text ≡ line ∷ lines_of rest → form_of_line line ≡ Some End → 0 < left → given (lines_of text) left number ≡ bad_at number
-given_too_few text rest line zero number lines form some = absurd (omega (arith, some))
-given_too_few text rest line (suc left) number lines form some =
-    ap (λ l. given l (suc left) number) lines ∙ ap (λ f. given_by f (suc left) number (λ fewer. given (lines_of rest) fewer (number + 1))) form
-
-pub given_end : (text rest line : List ℕ) (left number : ℕ) → lines_of text ≡ line ∷ lines_of rest → form_of_line line ≡ Some End → left ≡ 0 → given (lines_of text) left number ≡ record { events = []; bad = None }
-given_end text rest line left number lines form none =
-    ap (λ l. given l left number) lines ∙ ap (λ f. given_by f left number (λ fewer. given (lines_of rest) fewer (number + 1))) form
-    ∙ ap (λ n. given_by (Some End) n number (λ fewer. given (lines_of rest) fewer (number + 1))) none
-
-pub given_none : (lines : List (List ℕ)) (left number : ℕ) → HasNoForm lines → given lines left number ≡ bad_at number
-given_none [] left number none = refl
-given_none (line ∷ lines) left number none = ap (λ f. given_by f left number (λ fewer. given lines fewer (number + 1))) none
-
-pub given_head : (text rest line : List ℕ) (left number id count : ℕ) → lines_of text ≡ line ∷ lines_of rest → form_of_line line ≡ Some (Head id count) → given (lines_of text) left number ≡ bad_at number
-given_head text rest line left number id count lines form =
-    ap (λ l. given l left number) lines ∙ ap (λ f. given_by f left number (λ fewer. given (lines_of rest) fewer (number + 1))) form
+drop-nil : {A : Type 0} (n : ℕ) → drop {A = A} n [] ≡ []
+drop-nil zero = refl
+drop-nil (suc n) = refl
 
 module _ {I : Type 0} (scripts : ScriptRules I) where
-  rest_skips : (skip : ℕ) (octets : List ℕ) (given : Given) → 0 < skip → rest_of scripts skip (give_event octets given) ≡ rest_of scripts (skip - 1) given
-  rest_skips zero octets given some = absurd (omega (arith, some))
-  rest_skips (suc skip) octets given some = let e : skip ≡ suc skip - 1 = omega arith in ap (λ n. rest_of scripts n given) e
+  rest_ended : (skip : ℕ) (bad : Option ℕ) → rest_of scripts skip (record { items = []; bad = bad }) ≡ closing_of scripts bad
+  rest_ended skip bad = ap (λ l. l ++ closing_of scripts bad) (drop-nil skip)
 
-  rest_takes : (skip : ℕ) (octets : List ℕ) (given : Given) → skip ≡ 0 → rest_of scripts skip (give_event octets given) ≡ scripts.event octets ∷ rest_of scripts skip given
-  rest_takes skip octets given none = ap (λ n. rest_of scripts n (give_event octets given)) none ∙ ap (λ n. scripts.event octets ∷ rest_of scripts n given) (sym none)
+  rest_skips : (skip : ℕ) (item : I) (given : Given I) → 0 < skip → rest_of scripts skip (give_item item given) ≡ rest_of scripts (skip - 1) given
+  rest_skips zero item given some = absurd (omega (arith, some))
+  rest_skips (suc skip) item given some = let e : skip ≡ suc skip - 1 = omega arith in ap (λ n. rest_of scripts n given) e
 
-  rest_ended : (skip : ℕ) (bad : Option ℕ) → rest_of scripts skip (record { events = []; bad = bad }) ≡ closing_of scripts bad
-  rest_ended zero bad = refl
-  rest_ended (suc skip) bad = refl
+  rest_takes : (skip : ℕ) (item : I) (given : Given I) → skip ≡ 0 → rest_of scripts skip (give_item item given) ≡ item ∷ rest_of scripts skip given
+  rest_takes skip item given none = ap (λ n. rest_of scripts n (give_item item given)) none ∙ ap (λ n. item ∷ rest_of scripts n given) (sym none)
 
--- a fault stops it
-abbrev pub IsFault : Stop → Type 0
-IsFault (Line number) = ⊥
-IsFault Unformatted = ⊥
-IsFault (Unfinished id count) = ⊥
-IsFault Input = Unit {0}
-IsFault Disk = Unit {0}
-IsFault Output = Unit {0}
-IsFault Full = Unit {0}
-IsFault Memory = Unit {0}
+  module _ (text : List ℕ) (count : ℕ) where
+    pub passes_start : (at : Input) → Unread at text → Passes scripts text count at count 2
+    passes_start at unread = record {
+      rest = text;
+      unread = unread;
+      lines = 0;
+      counted = omega arith;
+      behind = λ more. let e : more ≡ 0 + more = omega arith in ap (λ n. behind_lines n text) e;
+      front = [];
+      whole = refl;
+      few = omega arith;
+      bad = refl;
+    }
 
-pub step_fault : (stop : Stop) → IsStepStop stop → IsFault stop
-step_fault Disk step = tt
-step_fault Output step = tt
-step_fault Full step = tt
-step_fault Memory step = tt
-step_fault Input step = absurd step
-step_fault (Unfinished id count) step = absurd step
-step_fault (Line number) step = absurd step
-step_fault Unformatted step = absurd step
+    -- a line that gives an item was read
+    pub passes_line : {at to : Input} {left number : ℕ} (item : I) (p : Passes scripts text count at left number) → GivesItem scripts.item_of p.rest left number to (Ok (Some item)) → 0 < left → Passes scripts text count to (left - 1) (number + 1)
+    passes_line item p gives more =
+        let f = front_line p.rest in record {
+          rest = behind_line p.rest;
+          unread = gives.0;
+          lines = p.lines + 1;
+          counted = omega (arith, p.counted, more);
+          behind = λ n. let e : p.lines + suc n ≡ (p.lines + 1) + n = omega arith in p.behind (suc n) ∙ ap (λ m. behind_lines m text) e;
+          front = p.front ++ f.0;
+          whole = p.whole ∙ ap (λ l. p.front ++ l) f.1 ∙ sym (append_assoc p.front f.0 (behind_line p.rest));
+          few = omega (arith, ends-append p.front f.0, p.few, f.2);
+          bad = ap (λ (g : Given I). g.bad) (sym gives.1) ∙ p.bad;
+        }
 
-pub not_taken : (A : Type 0) (stop : Stop) → IsStepStop stop → IsTaken {A = A} (Err stop) → ⊥
-not_taken A Disk step taken = taken
-not_taken A Output step taken = taken
-not_taken A Full step taken = taken
-not_taken A Memory step taken = taken
-not_taken A Input step taken = step
-not_taken A (Unfinished id count) step taken = step
-not_taken A (Line number) step taken = step
-not_taken A Unformatted step taken = step
+    -- a read failed
+    pub passes_fail : {at : Input} {left number : ℕ} (p : Passes scripts text count at left number) (source : Option (List ℕ)) → FailsWithin p.rest source → FailsBefore (count + 1) text source
+    passes_fail p source f = record {
+      left = f.left;
+      unread = f.unread;
+      front = p.front ++ f.front;
+      whole = p.whole ∙ ap (λ l. p.front ++ l) f.whole ∙ sym (append_assoc p.front f.front f.left);
+      few = omega (arith, ends-append p.front f.front, p.few, f.no_end, p.counted);
+    }
 
--- an event comes exactly where one is due
-pub no_event : {A : Type 0} (event : Option A) (left : ℕ) → (IsSome event ↔ (0 < left)) → event ≡ None → left ≡ 0
-no_event event left due is = zero_or left (λ more. cc (due.1 more, is))
-  where
-    zero_or : (n : ℕ) → (0 < n → ⊥) → n ≡ 0
-    zero_or n none = omega (arith, none)
+    -- a bad line, or a failed read, stops it
+    pub passes_stop : {at : Input} {left number : ℕ} (p : Passes scripts text count at left number) (to : Input) (stop : LineStop) → GivesItem scripts.item_of p.rest left number to (Err stop) → Answers {A = Unit {0}} (given scripts.item_of (lines_of text) count 2).bad (Err stop)
+    passes_stop p to (Line bad) gives = sym p.bad ∙ ap (λ (g : Given I). g.bad) gives.1 ∙ ap Some (sym gives.0)
+    passes_stop p to InputFailed gives = tt
+    passes_stop p to (Step stop) gives = tt
 
-pub one_event : {A : Type 0} (event : Option A) (left : ℕ) → (IsSome event ↔ (0 < left)) → (x : A) → event ≡ Some x → 0 < left
-one_event event left due x is = due.0 (ap is_some is)
+    pub passes_far : {at : Input} {left number : ℕ} (p : Passes scripts text count at left number) (to : Input) (stop : LineStop) → GivesItem scripts.item_of p.rest left number to (Err stop) → HasRead {A = Unit {0}} (count + 1) text to (Err stop)
+    passes_far p to (Line bad) gives = tt
+    passes_far p to InputFailed gives = passes_fail p to.left gives
+    passes_far p to (Step stop) gives = tt
 
--- lines that are passed over end at a bad one, or at one that can't be read
-pub passes_not : (text : List ℕ) (count : ℕ) (held : List ℕ) (source : Option (List ℕ)) (left number : ℕ) (p : Passes text count held source left number) (next : List ℕ) (later : Option (List ℕ)) (stop : Stop)
-    → GivesEvent p.rest left number next later (Err stop) → Answers {A = Unit {0}} (given (lines_of text) count 2).bad (Err stop)
-passes_not text count held source left number p next later (Line bad) gives = sym p.bad ∙ ap (λ (g : Given). g.bad) gives.1 ∙ ap Some (sym gives.0)
-passes_not text count held source left number p next later Input gives = tt
-passes_not text count held source left number p next later Unformatted gives = tt
-passes_not text count held source left number p next later (Unfinished id n) gives = tt
-passes_not text count held source left number p next later Disk gives = tt
-passes_not text count held source left number p next later Output gives = tt
-passes_not text count held source left number p next later Full gives = tt
-passes_not text count held source left number p next later Memory gives = tt
+    -- the line `end` was read behind the last item
+    pub passes_end : {at : Input} {left number : ℕ} (p : Passes scripts text count at left number) (to : Input) → Unread to (behind_line p.rest) → left ≡ 0 → Unread to (behind_lines (count + 1) text)
+    passes_end p to unread none = let e : p.lines + 1 ≡ count + 1 = omega (arith, p.counted, none) in subst (Unread to) (p.behind 1 ∙ ap (λ n. behind_lines n text) e) unread
 
--- a fault, wherever it comes
-pub fault_given : {I M : Type 0} (rules : Rules I) (view : M → MachineView I) (says : List ℕ → List (Entry I) → Entry I → List ℕ) (Z : List ℕ) (H : List (Entry I)) (all : List I) (bad : Option ℕ) (start now : BoardView) (engine : Engine M I) (before after : Option (List ℕ)) (stop : Stop) → IsFault stop
-    → LeavesOnly start now (LeavesPrefix rules Z H start.sent all) → (stop ≡ Full → StopsFull rules view says Z H all start now engine before after) → Reports rules says Z H all now before after stop → RunsGiven rules view says Z H all bad start now engine before after (Err stop)
-fault_given rules view says Z H all bad start now engine before after Input fault m full q = record { answers = tt; number = tt; moments = m; runs = λ h. absurd h; full = λ err. absurd (cc err); reports = q }
-fault_given rules view says Z H all bad start now engine before after Disk fault m full q = record { answers = tt; number = tt; moments = m; runs = λ h. absurd h; full = λ err. absurd (cc err); reports = q }
-fault_given rules view says Z H all bad start now engine before after Output fault m full q = record { answers = tt; number = tt; moments = m; runs = λ h. absurd h; full = λ err. absurd (cc err); reports = q }
-fault_given rules view says Z H all bad start now engine before after Memory fault m full q = record { answers = tt; number = tt; moments = m; runs = λ h. absurd h; full = λ err. absurd (cc err); reports = q }
-fault_given rules view says Z H all bad start now engine before after Full fault m full q = record { answers = tt; number = tt; moments = m; runs = λ h. absurd h; full = λ err. full refl; reports = q }
-fault_given rules view says Z H all bad start now engine before after (Unfinished id count) fault m full q = absurd fault
-fault_given rules view says Z H all bad start now engine before after (Line number) fault m full q = absurd fault
-fault_given rules view says Z H all bad start now engine before after Unformatted fault m full q = absurd fault
+  module _ (text : List ℕ) (count taken : ℕ) where
+    stands_next : {at to : Input} {skip left number : ℕ} {so_far : List I} (skip' : ℕ) (so_far' : List I) (item : I) (s : Stands scripts text count taken at skip left number so_far)
+        → GivesItem scripts.item_of s.passes.rest left number to (Ok (Some item)) → 0 < left → ((g : Given I) → so_far ++ rest_of scripts skip (give_item item g) ≡ so_far' ++ rest_of scripts skip' g)
+        → Stands scripts text count taken to skip' (left - 1) (number + 1) so_far'
+    unfolding passes_line
+    stands_next {at} {to} {skip} {left} {number} {so_far} skip' so_far' item s gives more same = record {
+      passes = passes_line text count item s.passes gives more;
+      split = sym (same (given scripts.item_of (lines_of (behind_line s.passes.rest)) (left - 1) (number + 1))) ∙ ap (λ g. so_far ++ rest_of scripts skip g) (sym gives.1) ∙ s.split;
+    }
 
-module _ {I M : Type 0} (rules : Rules I) (view : M → MachineView I) (says : List ℕ → List (Entry I) → Entry I → List ℕ) (scripts : ScriptRules I) (Z : List ℕ) (H : List (Entry I)) (text : List ℕ) (count taken : ℕ) (start : BoardView) where
-  -- all that the lines give
-  abbrev all : List I
-  all = rest_of scripts taken (given (lines_of text) count 2)
+    -- it was taken in an earlier run
+    pub stands_skip : {at to : Input} {skip left number : ℕ} {so_far : List I} (item : I) (s : Stands scripts text count taken at skip left number so_far) → GivesItem scripts.item_of s.passes.rest left number to (Ok (Some item)) → 0 < left → 0 < skip
+        → Stands scripts text count taken to (skip - 1) (left - 1) (number + 1) so_far
+    stands_skip {skip = skip} {so_far = so_far} item s gives more skips = stands_next (skip - 1) so_far item s gives more (λ g. ap (λ l. so_far ++ l) (rest_skips skip item g skips))
 
-  pub takes_start : (engine : Engine M I) (written : Option (List ℕ)) (held : List ℕ) (source : Option (List ℕ)) → IsSound start → IsTrue start.tells → Holds rules view Z H start engine → HasLeft held source text
-      → Takes rules view says scripts Z H text count taken start start engine written written held source taken count 2 0
-  takes_start engine written held source sound tells holds left = record {
+    -- it is taken now
+    pub stands_take : {at to : Input} {skip left number : ℕ} {so_far : List I} (item : I) (s : Stands scripts text count taken at skip left number so_far) → GivesItem scripts.item_of s.passes.rest left number to (Ok (Some item)) → 0 < left → skip ≡ 0
+        → Stands scripts text count taken to skip (left - 1) (number + 1) (so_far ++ item ∷ [])
+    stands_take {skip = skip} {so_far = so_far} item s gives more none =
+        stands_next skip (so_far ++ item ∷ []) item s gives more (λ g. ap (λ l. so_far ++ l) (rest_takes skip item g none) ∙ sym (append_assoc so_far (item ∷ []) (rest_of scripts skip g)))
+
+module _ {I M : Type 0} (k : Kind I M) (count taken : ℕ) where
+  -- no line was read yet
+  pub takes_start : {w : World I M} (from : Input) → Goes k w w [] None → Takes k w w from from count taken taken count 2 0
+  unfolding passes_start
+  takes_start from goes = record {
     so_far = [];
-    runs = runs_start rules view says Z H start engine written sound tells holds;
-    rest = text;
-    unread = left;
-    split = refl;
-    bad = refl;
+    goes = goes;
+    same = refl;
     counted = refl;
+    stands = λ text unread. record { passes = passes_start k.scripts text count from unread; split = refl };
   }
 
-  -- a line that was taken in an earlier life
-  pub takes_skip : (now : BoardView) (engine : Engine M I) (before after : Option (List ℕ)) (held next : List ℕ) (source later : Option (List ℕ)) (skip left number items : ℕ) (octets : List ℕ)
-      → (t : Takes rules view says scripts Z H text count taken start now engine before after held source skip left number items) → GivesOne t.rest left number next later octets → 0 < skip
-      → Takes rules view says scripts Z H text count taken start now engine before after next later (skip - 1) (left - 1) (number + 1) items
-  takes_skip now engine before after held next source later skip left number items octets t one skipped = record {
-    so_far = t.so_far;
-    runs = t.runs;
-    rest = one.rest;
-    unread = one.unread;
-    split = ap (λ l. t.so_far ++ l) (sym (ap (rest_of scripts skip) one.gives ∙ rest_skips scripts skip octets (given (lines_of one.rest) (left - 1) (number + 1)) skipped)) ∙ t.split;
-    bad = sym (ap (λ (g : Given). g.bad) one.gives) ∙ t.bad;
-    counted = t.counted;
-  }
+  -- all that the lines give, and the first bad one
+  abbrev all : List ℕ → List I
+  all text = rest_of k.scripts taken (given k.scripts.item_of (lines_of text) count 2)
 
-  -- what is to be taken begins with the event of the next line
-  event_first : (now : BoardView) (engine : Engine M I) (before after : Option (List ℕ)) (held next : List ℕ) (source later : Option (List ℕ)) (skip left number items : ℕ) (octets : List ℕ)
-      → (t : Takes rules view says scripts Z H text count taken start now engine before after held source skip left number items) → (one : GivesOne t.rest left number next later octets) → skip ≡ 0
-      → t.so_far ++ (scripts.event octets ∷ rest_of scripts skip (given (lines_of one.rest) (left - 1) (number + 1))) ≡ all
-  event_first now engine before after held next source later skip left number items octets t one none =
-      ap (λ l. t.so_far ++ l) (sym (ap (rest_of scripts skip) one.gives ∙ rest_takes scripts skip octets (given (lines_of one.rest) (left - 1) (number + 1)) none)) ∙ t.split
-
-  -- an event is taken
-  pub takes_event : (now new : BoardView) (engine after_it : Engine M I) (one two three : Option (List ℕ)) (held next : List ℕ) (source later : Option (List ℕ)) (skip left number items : ℕ) (octets : List ℕ)
-      → (t : Takes rules view says scripts Z H text count taken start now engine one two held source skip left number items) → GivesOne t.rest left number next later octets → skip ≡ 0
-      → (r : Runs rules view says Z (H ++ t.runs.entries) (scripts.event octets ∷ []) now new after_it two three)
-      → Takes rules view says scripts Z H text count taken start new after_it one three next later skip (left - 1) (number + 1) (items + 1)
-  takes_event now new engine after_it one two three held next source later skip left number items octets t event none r = record {
-    so_far = t.so_far ++ scripts.event octets ∷ [];
-    runs = runs_compose rules view says Z H t.so_far (scripts.event octets ∷ []) start now new engine after_it one two three t.runs r;
-    rest = event.rest;
-    unread = event.unread;
-    split = append_assoc t.so_far (scripts.event octets ∷ []) (rest_of scripts skip (given (lines_of event.rest) (left - 1) (number + 1)))
-        ∙ event_first now engine one two held next source later skip left number items octets t event none;
-    bad = sym (ap (λ (g : Given). g.bad) event.gives) ∙ t.bad;
-    counted = omega (arith, t.counted, length-append t.so_far (scripts.event octets ∷ []));
-  }
-
-  -- the same items in another spelling
-  same_items : (items : List I) (now : BoardView) (engine : Engine M I) (before after : Option (List ℕ)) → Runs rules view says Z H items start now engine before after → items ≡ all → Runs rules view says Z H all start now engine before after
-  same_items items now engine before after r is = subst (λ i. Runs rules view says Z H i start now engine before after) is r
-
-  -- a bad line stops it
-  pub stops_text : (now : BoardView) (engine : Engine M I) (before after : Option (List ℕ)) (held : List ℕ) (source : Option (List ℕ)) (skip left number items : ℕ)
-      → (t : Takes rules view says scripts Z H text count taken start now engine before after held source skip left number items) → given (lines_of t.rest) left number ≡ bad_at number
-      → RunsGiven rules view says Z H all (given (lines_of text) count 2).bad start now engine before after (Err (Line number))
-  stops_text now engine before after held source skip left number items t e =
-      let is : t.so_far ++ [] ≡ all = ap (λ l. t.so_far ++ l) (sym (ap (rest_of scripts skip) e ∙ rest_ended scripts skip (Some number))) ∙ t.split in record {
-        answers = sym t.bad ∙ ap (λ (g : Given). g.bad) e;
-        number = tt;
-        moments = moments_of rules view says Z H t.so_far [] all start now engine before after t.runs is;
-        runs = λ _. same_items t.so_far now engine before after t.runs (sym (append-nil t.so_far) ∙ is);
-        full = λ err. absurd (cc err);
-        reports = reports_now rules view says Z H t.so_far [] all start now engine before after (Line number) t.runs is;
-      }
-
-  pub fault_text : (now : BoardView) (engine : Engine M I) (before after : Option (List ℕ)) (stop : Stop) → IsFault stop → LeavesOnly start now (LeavesPrefix rules Z H start.sent all)
-      → (stop ≡ Full → StopsFull rules view says Z H all start now engine before after) → Reports rules says Z H all now before after stop → RunsGiven rules view says Z H all (given (lines_of text) count 2).bad start now engine before after (Err stop)
-  fault_text now engine before after stop fault m full q = fault_given rules view says Z H all (given (lines_of text) count 2).bad start now engine before after stop fault m full q
-
-  pub takes_moments : (now : BoardView) (engine : Engine M I) (before after : Option (List ℕ)) (held : List ℕ) (source : Option (List ℕ)) (skip left number items : ℕ)
-      → (t : Takes rules view says scripts Z H text count taken start now engine before after held source skip left number items) → LeavesOnly start now (LeavesPrefix rules Z H start.sent all)
-  takes_moments now engine before after held source skip left number items t =
-      moments_of rules view says Z H t.so_far (rest_of scripts skip (given (lines_of t.rest) left number)) all start now engine before after t.runs t.split
+  abbrev bad : List ℕ → Option ℕ
+  bad text = (given k.scripts.item_of (lines_of text) count 2).bad
 
   -- the next line is bad, or can't be read
-  pub stops_next : (now : BoardView) (engine : Engine M I) (before after : Option (List ℕ)) (held : List ℕ) (source : Option (List ℕ)) (skip left number items : ℕ)
-      → (t : Takes rules view says scripts Z H text count taken start now engine before after held source skip left number items) → (next : List ℕ) (later : Option (List ℕ)) (stop : Stop)
-      → GivesEvent t.rest left number next later (Err stop) → RunsGiven rules view says Z H all (given (lines_of text) count 2).bad start now engine before after (Err stop)
-  stops_next now engine before after held source skip left number items t next later (Line bad) gives =
-      subst (λ n. RunsGiven rules view says Z H all (given (lines_of text) count 2).bad start now engine before after (Err (Line n))) (sym gives.0) (stops_text now engine before after held source skip left number items t gives.1)
-  stops_next now engine before after held source skip left number items t next later Input gives = fault_text now engine before after Input tt (takes_moments now engine before after held source skip left number items t) (λ e. absurd (cc e))
-      (reports_now rules view says Z H t.so_far (rest_of scripts skip (given (lines_of t.rest) left number)) all start now engine before after Input t.runs t.split)
-  stops_next now engine before after held source skip left number items t next later Unformatted gives = absurd gives
-  stops_next now engine before after held source skip left number items t next later (Unfinished id n) gives = absurd gives
-  stops_next now engine before after held source skip left number items t next later Disk gives = absurd gives
-  stops_next now engine before after held source skip left number items t next later Output gives = absurd gives
-  stops_next now engine before after held source skip left number items t next later Full gives = absurd gives
-  stops_next now engine before after held source skip left number items t next later Memory gives = absurd gives
+  pub stops_next : {old now : World I M} {from at : Input} {to : Input} (skip left number items : ℕ) (t : Takes k old now from at count taken skip left number items) (stop : LineStop)
+      → ((text : List ℕ) → Unread at text → GivesItem k.scripts.item_of text left number to (Err stop)) → Reads {A = Option I} at to (Err stop) → (stop ≡ Line number) ⊎ (stop ≡ InputFailed) → (k.view now.engine.machine).due ≡ None
+      → Ran k old now from to (count + 1) all bad (Err stop)
+  stops_next skip left number items t (Line number') gives reads line idle = record {
+    so_far = t.so_far;
+    goes = t.goes;
+    idle = λ read. idle;
+    reads = reads_err (Line number') t.same reads;
+    given = λ text unread.
+        let s = t.stands text unread in
+        let g = gives s.passes.rest s.passes.unread in record {
+          more = [];
+          split = ap (λ l. t.so_far ++ l) (sym (ap (rest_of k.scripts skip) g.1 ∙ rest_ended k.scripts skip (Some number))) ∙ s.split;
+          read = λ read. refl;
+          answers = sym s.passes.bad ∙ ap (λ (x : Given I). x.bad) g.1 ∙ ap Some (sym g.0);
+          number = tt;
+        };
+    far = λ text unread. tt;
+  }
+  stops_next {to = to} skip left number items t InputFailed gives reads line idle = record {
+    so_far = t.so_far;
+    goes = t.goes;
+    idle = λ read. absurd read;
+    reads = reads_err InputFailed t.same reads;
+    given = λ text unread.
+        let s = t.stands text unread in record {
+          more = rest_of k.scripts skip (given k.scripts.item_of (lines_of s.passes.rest) left number);
+          split = s.split;
+          read = λ read. absurd read;
+          answers = tt;
+          number = tt;
+        };
+    far = λ text unread. let s = t.stands text unread in passes_fail k.scripts text count s.passes to.left (gives s.passes.rest s.passes.unread);
+  }
+  stops_next skip left number items t (Step stop) gives reads line idle = absurd (⊎_elim (λ e. cc e) (λ e. cc e) line)
 
-  -- an event is not taken, or not settled
-  pub event_fails : (now new : BoardView) (engine after_it : Engine M I) (one two three : Option (List ℕ)) (held next : List ℕ) (source later : Option (List ℕ)) (skip left number items : ℕ) (octets : List ℕ) (stop : Stop)
-      → (t : Takes rules view says scripts Z H text count taken start now engine one two held source skip left number items) → GivesOne t.rest left number next later octets → skip ≡ 0 → IsStepStop stop
-      → LeavesOnly now new (LeavesPrefix rules Z (H ++ t.runs.entries) now.sent (scripts.event octets ∷ []))
-      → (stop ≡ Full → StopsFull rules view says Z (H ++ t.runs.entries) (scripts.event octets ∷ []) now new after_it two three)
-      → Reports rules says Z (H ++ t.runs.entries) (scripts.event octets ∷ []) new two three stop
-      → RunsGiven rules view says Z H all (given (lines_of text) count 2).bad start new after_it one three (Err stop)
-  event_fails now new engine after_it one two three held next source later skip left number items octets stop t event none step m full q =
-      let rest = rest_of scripts skip (given (lines_of event.rest) (left - 1) (number + 1)) in
-      let is = event_first now engine one two held next source later skip left number items octets t event none in
-      fault_text new after_it one three stop (step_fault stop step)
-      (moments_after rules view says Z H t.so_far (scripts.event octets ∷ []) rest all start now new engine one two t.runs m is)
-      (λ e. full_behind rules view says Z H t.so_far (scripts.event octets ∷ []) rest all start now new engine after_it one two three t.runs (full e) is)
-      (reports_behind rules view says Z H t.so_far (scripts.event octets ∷ []) rest all start now new engine one two three stop t.runs q is)
+  module _ {old now : World I M} {from at : Input} (to : Input) (skip left number items : ℕ) (t : Takes k old now from at count taken skip left number items) (found : Option I) (reads : Reads {A = Option I} at to (Ok found))
+      (gives : (text : List ℕ) → Unread at text → GivesItem k.scripts.item_of text left number to (Ok found)) where
+    gives_as : {found' : Option I} → found ≡ found' → (text : List ℕ) → Unread at text → GivesItem k.scripts.item_of text left number to (Ok found')
+    gives_as is text unread = subst (λ x. GivesItem k.scripts.item_of text left number to (Ok x)) is (gives text unread)
 
-  close_is : (now : BoardView) (engine : Engine M I) (before after : Option (List ℕ)) (held : List ℕ) (source : Option (List ℕ)) (skip left number items : ℕ)
-      → (t : Takes rules view says scripts Z H text count taken start now engine before after held source skip left number items) → given (lines_of t.rest) left number ≡ record { events = []; bad = None } → t.so_far ++ scripts.closing ∷ [] ≡ all
-  close_is now engine before after held source skip left number items t ended = ap (λ l. t.so_far ++ l) (sym (ap (rest_of scripts skip) ended ∙ rest_ended scripts skip None)) ∙ t.split
+    -- it is the end, and there comes the closing item
+    ends_all : (closing : I) → closing ≡ k.scripts.closing → found ≡ None → (text : List ℕ) → Unread from text → t.so_far ++ closing ∷ [] ≡ all text
+    ends_all closing is none text unread =
+        let s = t.stands text unread in
+        ap (λ x. t.so_far ++ x ∷ []) is ∙ ap (λ l. t.so_far ++ l) (sym (ap (rest_of k.scripts skip) (gives_as none s.passes.rest s.passes.unread).1 ∙ rest_ended k.scripts skip None)) ∙ s.split
 
-  -- the closing item is taken, and all is done
-  pub ends_text : (now new : BoardView) (engine after_it : Engine M I) (one two three : Option (List ℕ)) (held : List ℕ) (source : Option (List ℕ)) (skip left number items : ℕ)
-      → (t : Takes rules view says scripts Z H text count taken start now engine one two held source skip left number items) → given (lines_of t.rest) left number ≡ record { events = []; bad = None }
-      → (r : Runs rules view says Z (H ++ t.runs.entries) (scripts.closing ∷ []) now new after_it two three)
-      → RunsGiven rules view says Z H all (given (lines_of text) count 2).bad start new after_it one three (Ok (items + 1))
-  ends_text now new engine after_it one two three held source skip left number items t ended r =
-      let is = close_is now engine one two held source skip left number items t ended in
-      let whole = runs_compose rules view says Z H t.so_far (scripts.closing ∷ []) start now new engine after_it one two three t.runs r in record {
-        answers = sym t.bad ∙ ap (λ (g : Given). g.bad) ended;
-        number = omega (arith, t.counted, length-append t.so_far (scripts.closing ∷ []), ap length is);
-        moments = moments_of rules view says Z H (t.so_far ++ scripts.closing ∷ []) [] all start new after_it one three whole (append-nil (t.so_far ++ scripts.closing ∷ []) ∙ is);
-        runs = λ _. same_items (t.so_far ++ scripts.closing ∷ []) new after_it one three whole is;
-        full = λ err. absurd (cc err);
-        reports = tt;
-      }
+    -- it isn't taken
+    pub close_stops : {new : World I M} (closing : I) → closing ≡ k.scripts.closing → found ≡ None → (stop : StepStop) → Goes k now new (closing ∷ []) (Some stop) → Ran k old new from to (count + 1) all bad (Err (Step stop))
+    close_stops closing is none stop goes = record {
+      so_far = t.so_far ++ closing ∷ [];
+      goes = goes_then k t.goes goes;
+      idle = λ read. absurd read;
+      reads = reads_ok (Err (Step stop)) t.same reads (λ e. cc e);
+      given = λ text unread. record { more = []; split = append-nil (t.so_far ++ closing ∷ []) ∙ ends_all closing is none text unread; read = λ read. absurd read; answers = tt; number = tt };
+      far = λ text unread. tt;
+    }
 
-  -- the closing item is not taken, or not settled
-  pub close_fails : (now new : BoardView) (engine after_it : Engine M I) (one two three : Option (List ℕ)) (held : List ℕ) (source : Option (List ℕ)) (skip left number items : ℕ) (stop : Stop)
-      → (t : Takes rules view says scripts Z H text count taken start now engine one two held source skip left number items) → given (lines_of t.rest) left number ≡ record { events = []; bad = None } → IsStepStop stop
-      → LeavesOnly now new (LeavesPrefix rules Z (H ++ t.runs.entries) now.sent (scripts.closing ∷ []))
-      → (stop ≡ Full → StopsFull rules view says Z (H ++ t.runs.entries) (scripts.closing ∷ []) now new after_it two three)
-      → Reports rules says Z (H ++ t.runs.entries) (scripts.closing ∷ []) new two three stop
-      → RunsGiven rules view says Z H all (given (lines_of text) count 2).bad start new after_it one three (Err stop)
-  close_fails now new engine after_it one two three held source skip left number items stop t ended step m full q =
-      let is = close_is now engine one two held source skip left number items t ended in
-      fault_text new after_it one three stop (step_fault stop step)
-      (moments_after rules view says Z H t.so_far (scripts.closing ∷ []) [] all start now new engine one two t.runs m is)
-      (λ e. full_behind rules view says Z H t.so_far (scripts.closing ∷ []) [] all start now new engine after_it one two three t.runs (full e) is)
-      (reports_behind rules view says Z H t.so_far (scripts.closing ∷ []) [] all start now new engine one two three stop t.runs q is)
+    -- it is taken
+    pub closes : {new : World I M} (closing : I) → closing ≡ k.scripts.closing → found ≡ None → left ≡ 0 → Goes k now new (closing ∷ []) None → (k.view new.engine.machine).due ≡ None → Ran k old new from to (count + 1) all bad (Ok (items + 1))
+    closes closing is none ended goes idle = record {
+      so_far = t.so_far ++ closing ∷ [];
+      goes = goes_then k t.goes goes;
+      idle = λ read. idle;
+      reads = reads_ok (Ok (items + 1)) t.same reads (λ e. cc e);
+      given = λ text unread.
+          let s = t.stands text unread in record {
+            more = [];
+            split = append-nil (t.so_far ++ closing ∷ []) ∙ ends_all closing is none text unread;
+            read = λ read. refl;
+            answers = sym s.passes.bad ∙ ap (λ (x : Given I). x.bad) (gives_as none s.passes.rest s.passes.unread).1;
+            number = omega (arith, t.counted, length-append t.so_far (closing ∷ []), ap length (ends_all closing is none text unread));
+          };
+      far = λ text unread. let s = t.stands text unread in passes_end k.scripts text count s.passes to (gives_as none s.passes.rest s.passes.unread).0 ended;
+    }
+
+    -- an item is passed over
+    pub takes_skip : (item : I) → found ≡ Some item → 0 < left → 0 < skip → Takes k old now from to count taken (skip - 1) (left - 1) (number + 1) items
+    takes_skip item is more skips = record {
+      so_far = t.so_far;
+      goes = t.goes;
+      same = reads.same (λ e. cc e) ∙ t.same;
+      counted = t.counted;
+      stands = λ text unread. let s = t.stands text unread in stands_skip k.scripts text count taken item s (gives_as is s.passes.rest s.passes.unread) more skips;
+    }
+
+    -- an item is taken
+    pub takes_item : {new : World I M} (item : I) → found ≡ Some item → 0 < left → skip ≡ 0 → Goes k now new (item ∷ []) None → Takes k old new from to count taken skip (left - 1) (number + 1) (items + 1)
+    takes_item item is more none goes = record {
+      so_far = t.so_far ++ item ∷ [];
+      goes = goes_then k t.goes goes;
+      same = reads.same (λ e. cc e) ∙ t.same;
+      counted = omega (arith, t.counted, length-append t.so_far (item ∷ []));
+      stands = λ text unread. let s = t.stands text unread in stands_take k.scripts text count taken item s (gives_as is s.passes.rest s.passes.unread) more none;
+    }
+
+    -- it isn't taken
+    pub item_stops : {new : World I M} (item : I) → found ≡ Some item → 0 < left → skip ≡ 0 → (stop : StepStop) → Goes k now new (item ∷ []) (Some stop) → Ran k old new from to (count + 1) all bad (Err (Step stop))
+    item_stops item is more none stop goes = record {
+      so_far = t.so_far ++ item ∷ [];
+      goes = goes_then k t.goes goes;
+      idle = λ read. absurd read;
+      reads = reads_ok (Err (Step stop)) t.same reads (λ e. cc e);
+      given = λ text unread.
+          let s = t.stands text unread in
+          let s' : Stands k.scripts text count taken to skip (left - 1) (number + 1) (t.so_far ++ item ∷ []) = stands_take k.scripts text count taken item s (gives_as is s.passes.rest s.passes.unread) more none in record {
+            more = rest_of k.scripts skip (given k.scripts.item_of (lines_of s'.passes.rest) (left - 1) (number + 1));
+            split = s'.split;
+            read = λ r. absurd {0} r;
+            answers = tt;
+            number = tt;
+          };
+      far = λ text unread. tt;
+    }

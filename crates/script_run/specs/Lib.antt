@@ -1,9 +1,9 @@
 pub mod Items
 pub mod Report
 pub mod Room
-pub mod Status
-pub mod Taking
-pub mod Run
+pub mod Going
+pub mod Lines
 pub mod Course
 pub mod Playing
+pub mod Performing
 pub mod Top

@@ -1,21 +1,34 @@
 -- What a run leaves, writes and answers.
-use Rattle.std.specs.Prelude.{◌≡◌, ◌≢◌, ◌⊎◌, ℕ, ◌≤◌, List, [], ◌∷◌, ◌++◌, length, Option, Some, None, IsSome, IfSome, IsTrue}
+use Rattle.std.specs.Prelude.{◌≡◌, ◌≢◌, ◌⊎◌, ⊤, ℕ, ◌≤◌, List, [], ◌++◌, length, Option, Some, None, IsSome, IfSome, IsTrue}
 use Rattle.board_core.specs.declared.step.Told.{Told}
 use Rattle.board_core.specs.Causes.{Rose}
 use Rattle.board_core.specs.Board.{Only, SyncsFirst, BoardView, CrashState, NeverSynced, steps_of, tolds_of}
 use Rattle.pef_journal.specs.Journal.{LeavesAsRead}
 use Rattle.pef_engine.specs.declared.entry.Entry.{Entry}
-use Rattle.pef_engine.specs.Rules.{Rules, LawfulFrom, Lawful, Stands, StandsForNone}
-use Rattle.pef_engine.specs.MachineView.{MachineView}
+use Rattle.pef_engine.specs.Rules.{Rules, LawfulFrom, Lawful, Stands, StandsForNone, WasOver, HasOver}
 use Rattle.pef_engine.specs.CrashFree.{crash_free_run, LeavesPrefix, entry_items, entry_tolds, IsPrefixOf}
-use Rattle.script_text.specs.Script.{said_of, bad_line}
-use Rattle.pef_engine.specs.Scripts.{ScriptRules}
-use Rattle.script_run.specs.Items.{IsOther, items_of_text}
-use Rattle.script_run.specs.Report.{report_from, says, ok_line, bad_line_line, unfinished_line}
-use Rattle.script_run.specs.Room.{HadRoom, LacksRoom, IsTooMuch, HasLimit, HasNoLimit}
-use Rattle.script_run.specs.declared.stop.Stop.{Stop}
-use Rattle.script_run.specs.declared.stop.Stop.TheVariants.{Unformatted, Disk}
-use Rattle.script_run.specs.Status.{IsOneOf, IsPartOf, last_line, status_of}
+use Rattle.pef_engine.specs.Scripts.{script_of}
+use Rattle.script_text.specs.Lines.{behind_lines}
+use Rattle.script_text.specs.Script.{bad_line, lines_in}
+use Rattle.report_line.specs.declared.ending.Ending.{Ending}
+use Rattle.report_line.specs.declared.ending.Ending.TheVariants.{Done, Usage, Unformatted, Line, Settings, Unfinished, Input, Disk, Output, Full, Memory, Formatted}
+use Rattle.report_line.specs.Ending.{status_of, last_line}
+use Rattle.report_line.specs.Finishing.{status_unsaid}
+use Rattle.script_run.specs.Items.{IsOther, text_says, items_of_text}
+use Rattle.script_run.specs.Room.{HadRoom, LacksRoom}
+use Rattle.script_run.specs.Going.{Kind, report, LacksNext, IsCut}
+use Rattle.script_run.specs.Lines.{FailsBefore}
+
+-- the outside of a call at one moment: the board, what is left of the source, what the sink was given, and their counts of failures
+pub record Outside : Type 1 where
+  pub board : BoardView
+  pub unread : Option (List ℕ)
+  pub reads : ℕ
+  pub written : Option (List ℕ)
+  pub writes : ℕ
+
+abbrev pub outside : BoardView → Option (List ℕ) → ℕ → Option (List ℕ) → ℕ → Outside
+outside board unread reads written writes = record { board = board; unread = unread; reads = reads; written = written; writes = writes }
 
 -- what the file stands for at the return, as a read gives it
 abbrev pub ReturnLeft : BoardView → CrashState
@@ -29,43 +42,6 @@ pub record RunKeeps {I : Type 0} (rules : Rules I) (Z : List ℕ) (H : List (Ent
   pub returned : LeavesPrefix rules Z H old.sent items (ReturnLeft new)
   pub whole_call : Only old.octets old.images → (c : CrashState) → new.left_since old.moment c → LeavesPrefix rules Z H old.sent items c
 
--- All items are in the history, which is the run without a crash with what was told, all of it; every entry had room; every crash
--- leaves it; and the report of it was written, with part of a last line.
-pub record RunTakes {I : Type 0} (rules : Rules I) (says : List ℕ → List (Entry I) → Entry I → List ℕ) (Z : List ℕ) (H : List (Entry I)) (items : List I) (old new : BoardView) (before after : Option (List ℕ)) (part : List ℕ) : Type 0 where
-  pub tolds : List Told
-  pub told : tolds_of new.sent ≡ tolds_of old.sent ++ tolds
-  pub taken : entry_items (crash_free_run rules Z H items tolds) ≡ items
-  pub stored : entry_tolds (crash_free_run rules Z H items tolds) ≡ tolds
-  pub lawful : LawfulFrom rules Z H (crash_free_run rules Z H items tolds)
-  pub room : HadRoom rules Z H (crash_free_run rules Z H items tolds)
-  pub stands : Stands rules Z (H ++ crash_free_run rules Z H items tolds) new.octets
-  pub lasting : (c : List ℕ) → new.images c → Stands rules Z (H ++ crash_free_run rules Z H items tolds) c
-  pub written : (text : List ℕ) → before ≡ Some text → after ≡ Some (text ++ (report_from says Z H (crash_free_run rules Z H items tolds) ++ part))
-
--- at status 0 nothing is pending, and the last line is whole
-pub record RunIsWhole {I : Type 0} (rules : Rules I) (says : List ℕ → List (Entry I) → Entry I → List ℕ) (Z : List ℕ) (H : List (Entry I)) (items : List I) (old new : BoardView) (before after : Option (List ℕ)) : Type 0 where
-  pub takes : RunTakes rules says Z H items old new before after (ok_line (length items))
-  pub idle : rules.pending Z (H ++ crash_free_run rules Z H items takes.tolds) ≡ None
-
--- The run stopped at K, behind which the next entry of the run without a crash has no room. All that was told is stored: no step is
--- issued whose outcome has no room.
-pub record IsFullAt {I M : Type 0} (rules : Rules I) (view : M → MachineView I) (Z : List ℕ) (H : List (Entry I)) (items : List I) (old new : BoardView) : Type 0 where
-  pub entries : List (Entry I)
-  pub next : Entry I
-  pub tolds : List Told
-  pub told : tolds_of new.sent ≡ tolds_of old.sent ++ tolds
-  pub answered : tolds ≡ entry_tolds entries
-  pub more : List Told
-  pub is_prefix : IsPrefixOf (entries ++ next ∷ []) (crash_free_run rules Z H items (tolds ++ more))
-  pub stands : Stands rules Z (H ++ entries) new.octets
-  pub too_much : IsTooMuch rules view Z (H ++ entries) next
-
--- status 4 or 5: all that the text gives was taken and reported, and the last line came, or part of it where the sink failed
-pub record RunStops {I : Type 0} (rules : Rules I) (says : List ℕ → List (Entry I) → Entry I → List ℕ) (Z : List ℕ) (H : List (Entry I)) (items : List I) (old new : BoardView) (before after : Option (List ℕ)) (writes_before writes_after : ℕ) (last : List ℕ) : Type 0 where
-  pub part : List ℕ
-  pub is_part : IsPartOf part last writes_before writes_after
-  pub takes : RunTakes rules says Z H items old new before after part
-
 -- Nothing is written at any moment: until the first sync a crash leaves what it could before, and from then on what a read gave.
 abbrev pub WritesNothing : BoardView → BoardView → Type 0
 WritesNothing old new = NeverSynced old new ⊎ SyncsFirst old new (LeavesAsRead old)
@@ -76,87 +52,147 @@ pub record IsUntouched (old new : BoardView) : Type 0 where
   pub sent : new.sent ≡ old.sent
   pub moments : WritesNothing old new
 
--- These entries are the first of the run without a crash. There are none and the file is as it was, or each crash leaves them, perhaps
--- with the next one.
-pub record AreStored {I : Type 0} (rules : Rules I) (Z : List ℕ) (H : List (Entry I)) (items : List I) (old new : BoardView) (entries : List (Entry I)) : Type 0 where
-  pub is_prefix : IsPrefixOf entries (crash_free_run rules Z H items (entry_tolds entries))
-  pub lasting : ((entries ≡ []) × IsUntouched old new) ⊎ ((c : List ℕ) → new.images c → (next : List (Entry I)) × (length next ≤ 1) × Stands rules Z (H ++ (entries ++ next)) c)
+-- it answers of the text: all that the text gives was taken
+abbrev pub IsOfText : Ending → Type 0
+IsOfText (Done count) = ⊤
+IsOfText (Line number) = ⊤
+IsOfText (Unfinished id count) = ⊤
+IsOfText other = ⊥
 
--- Status 6, 7, 9 or 10: what is stored was reported, but perhaps for the entry at which the disk failed, and nothing else; and the last
--- line came, or part of it where the sink failed.
-pub record RunReports {I : Type 0} (rules : Rules I) (says : List ℕ → List (Entry I) → Entry I → List ℕ) (Z : List ℕ) (H : List (Entry I)) (items : List I) (old new : BoardView) (before after : Option (List ℕ)) (writes_before writes_after : ℕ) (stop : Stop) : Type 0 where
+-- it came to the end of the text, or to a bad line
+abbrev pub IsReadOut : Ending → Type 0
+IsReadOut (Done count) = ⊤
+IsReadOut (Line number) = ⊤
+IsReadOut other = ⊥
+
+-- something failed, or there was no room or memory
+abbrev pub IsFailure : Ending → Type 0
+IsFailure Input = ⊤
+IsFailure Disk = ⊤
+IsFailure Output = ⊤
+IsFailure Full = ⊤
+IsFailure Memory = ⊤
+IsFailure other = ⊥
+
+-- What was stored behind H, and reported. At a failed disk each crash leaves these entries, perhaps with the next one; else it leaves
+-- them alone.
+pub record RunStores {I M : Type 0} (k : Kind I M) (Z : List ℕ) (H : List (Entry I)) (items : List I) (old new : Outside) (end : Ending) (part : List ℕ) : Type 0 where
   pub entries : List (Entry I)
-  pub stored : AreStored rules Z H items old new entries
-  pub all : (stop ≡ Disk → ⊥) → Stands rules Z (H ++ entries) new.octets
-  pub written : (text : List ℕ) → before ≡ Some text → (part : List ℕ) × (after ≡ Some (text ++ (report_from says Z H entries ++ part))) × IsPartOf part (last_line stop) writes_before writes_after
+  pub rest : List I
+  -- they are the run without a crash: its first items, and all that was told
+  pub taken : entry_items entries ++ rest ≡ items
+  pub is_run : IsPrefixOf entries (crash_free_run k.rules Z H items (entry_tolds entries))
+  pub lawful : LawfulFrom k.rules Z H entries
+  pub room : HadRoom k.rules Z H entries
+  pub told : end ≢ Disk → tolds_of new.board.sent ≡ tolds_of old.board.sent ++ entry_tolds entries
+  pub stands : end ≢ Disk → Stands k.rules Z (H ++ entries) new.board.octets
+  pub lasting : end ≢ Disk → IsUntouched old.board new.board ⊎ ((c : List ℕ) → new.board.images c → Stands k.rules Z (H ++ entries) c)
+  pub torn : end ≡ Disk → ((entries ≡ []) × IsUntouched old.board new.board) ⊎ ((c : List ℕ) → new.board.images c → (next : List (Entry I)) × (length next ≤ 1) × Stands k.rules Z (H ++ (entries ++ next)) c)
+  -- all items are among them where it answers of the text
+  pub all : IsOfText end → rest ≡ []
+  -- the report of these entries was written, and then this part of the last line; where the sink failed it may be cut
+  pub said : List ℕ
+  pub written : (text : List ℕ) → old.written ≡ Some text → new.written ≡ Some (text ++ (said ++ part))
+  pub whole : end ≢ Output → said ≡ report k Z H entries
+  pub cut : end ≡ Output → IsCut k Z H entries said
+  -- behind them the next entry has no room, or there was none for one in the file
+  pub full : end ≡ Full → LacksNext k Z (H ++ entries) rest ⊎ WasOver k.rules Z H
 
--- all of these entries, or all but the last
-abbrev pub AllButLast : {I : Type 0} → List (Entry I) → List (Entry I) → Type 0
-AllButLast {I} entries fewer = (entries ≡ fewer) ⊎ ((last : Entry I) × (entries ≡ fewer ++ last ∷ []))
+-- the source was read up to the end of so many lines, and at most 256 octets beyond
+pub record ReadsTo (lines : ℕ) (text : List ℕ) (source : Option (List ℕ)) : Type 0 where
+  pub left : List ℕ
+  pub unread : source ≡ Some left
+  pub beyond : List ℕ
+  pub behind : behind_lines lines text ≡ beyond ++ left
+  pub few : length beyond ≤ 256
 
--- Status 8: what was written ends in the line of the entry that was stored last, or where all items were taken in the last line.
-pub record RunIsCut {I : Type 0} (rules : Rules I) (says : List ℕ → List (Entry I) → Entry I → List ℕ) (Z : List ℕ) (H : List (Entry I)) (items : List I) (old new : BoardView) (before after : Option (List ℕ)) : Type 0 where
-  pub entries : List (Entry I)
-  pub stored : AreStored rules Z H items old new entries
-  pub all : Stands rules Z (H ++ entries) new.octets
-  pub fewer : List (Entry I)
-  pub but_last : AllButLast entries fewer
-  pub written : (text : List ℕ) → before ≡ Some text → (part : List ℕ) × (after ≡ Some (text ++ part)) × IsPrefixOf (report_from says Z H fewer) part
-      × (IsPrefixOf part (report_from says Z H entries) ⊎ ((entry_items entries ≡ items) × IsPrefixOf part (report_from says Z H entries ++ ok_line (length items))))
+-- what may end a run over H before it answers of line 1
+abbrev pub MayEndAtOnce : {I M : Type 0} → Kind I M → List ℕ → List (Entry I) → Ending → Type 0
+MayEndAtOnce k Z H Input = ⊤
+MayEndAtOnce k Z H Disk = ⊤
+MayEndAtOnce k Z H Memory = ⊤
+MayEndAtOnce k Z H Full = WasOver k.rules Z H
+MayEndAtOnce k Z H other = ⊥
 
--- A run over a file that stands for the lawful history H, with this text, and its status.
-pub record RunAnswers {I M : Type 0} (rules : Rules I) (view : M → MachineView I) (scripts : ScriptRules I) (Z : List ℕ) (H : List (Entry I)) (text : List ℕ) (old new : BoardView) (before after : Option (List ℕ)) (writes_before writes_after status : ℕ) : Type 0 where
+-- A run over a file that stands for the lawful history H, with this text, and how it ends.
+pub record RunAnswers {I M : Type 0} (k : Kind I M) (Z : List ℕ) (H : List (Entry I)) (text : List ℕ) (old new : Outside) (end : Ending) (part : List ℕ) : Type 0 where
   -- from the first sync on the file stands for a prefix of the run without a crash, with its steps
-  pub headline : RunKeeps rules Z H (items_of_text scripts text H) old new
-  -- at status 0 it is whole, and so is what was written
-  pub whole : status ≡ 0 → RunIsWhole rules (says rules scripts) Z H (items_of_text scripts text H) old new before after
-  -- 5 exactly where another script is unfinished, and else 4 exactly where a line is bad, unless something failed before
-  pub bad : status ≡ 4 → (number : ℕ) × (bad_line (said_of text) ≡ Some number) × RunStops rules (says rules scripts) Z H (items_of_text scripts text H) old new before after writes_before writes_after (bad_line_line number)
-  -- where line 1 is good, nothing is pending then
-  pub settled : status ≡ 4 → IsSome (said_of text) → (tolds : List Told) → tolds_of new.sent ≡ tolds_of old.sent ++ tolds → rules.pending Z (H ++ crash_free_run rules Z H (items_of_text scripts text H) tolds) ≡ None
-  pub is_bad : (IsOther (scripts.script_of H) (said_of text) → ⊥) → IsSome (bad_line (said_of text)) → IsOneOf status (4 ∷ 6 ∷ 7 ∷ 8 ∷ 9 ∷ 10 ∷ [])
-  pub other : status ≡ 5 → IsOther (scripts.script_of H) (said_of text) × ((id : ℕ) × (count : ℕ) × IfSome (scripts.script_of H) (λ s. (s.id ≡ id) × (s.count ≡ count))
-      × RunStops rules (says rules scripts) Z H (items_of_text scripts text H) old new before after writes_before writes_after (unfinished_line id count))
-  pub is_other : IsOther (scripts.script_of H) (said_of text) → IsOneOf status (5 ∷ 6 ∷ 7 ∷ 10 ∷ []) ⊎ ((status ≡ 9) × HasLimit view)
-  -- where line 1 is no head the answer is 4, unless something failed before
-  pub headless : said_of text ≡ None → IsOneOf status (4 ∷ 6 ∷ 7 ∷ 10 ∷ []) ⊎ ((status ≡ 9) × HasLimit view)
+  pub headline : RunKeeps k.rules Z H (items_of_text k.scripts text H) old.board new.board
+  -- what is stored is reported, and nothing else
+  pub stores : RunStores k Z H (items_of_text k.scripts text H) old new end part
+  -- where line 1 is good and the text was read out, nothing is pending
+  pub idle : IsReadOut end → IsSome (text_says k.scripts text) → k.rules.pending Z (H ++ stores.entries) ≡ None
+  -- it is done only where no line is bad and no other script is unfinished, and so many items were taken
+  pub done : (count : ℕ) → end ≡ Done count → (bad_line (text_says k.scripts text) ≡ None) × (IsOther (script_of k.scripts H) (text_says k.scripts text) → ⊥) × (count ≡ length (items_of_text k.scripts text H))
+  -- a line is named only where it is the first bad one, and no other script is unfinished
+  pub bad : (number : ℕ) → end ≡ Line number → (bad_line (text_says k.scripts text) ≡ Some number) × (IsOther (script_of k.scripts H) (text_says k.scripts text) → ⊥)
+  -- a script is named only where it is another one and unfinished; and then, unless something failed before
+  pub other : (id count : ℕ) → end ≡ Unfinished id count → IsOther (script_of k.scripts H) (text_says k.scripts text) × IfSome (script_of k.scripts H) (λ s. (s.id ≡ id) × (s.count ≡ count))
+  pub is_other : IsOther (script_of k.scripts H) (text_says k.scripts text) → MayEndAtOnce k Z H end ⊎ ((id : ℕ) × (count : ℕ) × (end ≡ Unfinished id count))
+  -- where line 1 is no head it is named, unless something failed before
+  pub headless : text_says k.scripts text ≡ None → MayEndAtOnce k Z H end ⊎ (end ≡ Line 1)
   -- where another script is unfinished, or line 1 is no head, nothing is written and nothing issued
-  pub untouched : (status ≡ 5) ⊎ (said_of text ≡ None) → IsUntouched old new
-  pub formatted : status ≢ 3
-  -- whatever else stopped it, it reported what is stored, but perhaps for one entry, and nothing else
-  pub stopped : IsOneOf status (6 ∷ 7 ∷ 9 ∷ 10 ∷ []) → (stop : Stop) × (status ≡ status_of stop) × RunReports rules (says rules scripts) Z H (items_of_text scripts text H) old new before after writes_before writes_after stop
-  pub cut : status ≡ 8 → RunIsCut rules (says rules scripts) Z H (items_of_text scripts text H) old new before after
-  -- 9 exactly where an entry of the run without a crash has no room, unless something failed before, or 4 or 5 comes at line 1
-  pub full : status ≡ 9 → IsFullAt rules view Z H (items_of_text scripts text H) old new ⊎ HasLimit view
-  pub is_full : IsSome (said_of text) → (IsOther (scripts.script_of H) (said_of text) → ⊥) → (tolds more : List Told) → tolds_of new.sent ≡ tolds_of old.sent ++ tolds
-      → LacksRoom rules Z H (items_of_text scripts text H) (tolds ++ more) → IsOneOf status (6 ∷ 7 ∷ 8 ∷ 9 ∷ 10 ∷ [])
+  pub untouched : IsOther (script_of k.scripts H) (text_says k.scripts text) ⊎ (text_says k.scripts text ≡ None) → IsUntouched old.board new.board
+  pub formatted : end ≢ Unformatted
+  -- where an entry of the run without a crash has no room, it isn't done
+  pub is_full : IsSome (text_says k.scripts text) → (IsOther (script_of k.scripts H) (text_says k.scripts text) → ⊥) → (more : List Told)
+      → LacksRoom k.rules Z H (items_of_text k.scripts text H) (entry_tolds stores.entries ++ more) → IsFailure end
+  -- how far the source was read
+  pub far : (count : ℕ) → end ≡ Done count → ReadsTo (lines_in (text_says k.scripts text)) text new.unread
+  pub not_far : end ≡ Input → FailsBefore (lines_in (text_says k.scripts text)) text new.unread
 
--- The text is good, no other script is unfinished, and there is room for each entry, whatever the steps are told.
-pub record MayEnd {I M : Type 0} (rules : Rules I) (view : M → MachineView I) (scripts : ScriptRules I) (Z : List ℕ) (H : List (Entry I)) (text : List ℕ) : Type 0 where
-  pub good : bad_line (said_of text) ≡ None
-  pub no_other : IsOther (scripts.script_of H) (said_of text) → ⊥
-  pub room : (tolds : List Told) → LacksRoom rules Z H (items_of_text scripts text H) tolds → ⊥
-  pub no_limit : HasNoLimit view
+-- the status, and the part of the last line that was written: all of it unless the sink failed
+abbrev pub EndsWith : Ending → List ℕ → ℕ → ℕ → ℕ → Type 0
+EndsWith end part writes_before writes_after status =
+    ((part ≡ last_line end) × (status ≡ status_of end))
+    ⊎ (IsPrefixOf part (last_line end) × Rose writes_before writes_after × (status ≡ status_unsaid end))
 
--- A call of `run` on a board, a source with so many faults, and a sink, and its status.
-pub record RunCall {I M : Type 0} (rules : Rules I) (view : M → MachineView I) (scripts : ScriptRules I) (old new : BoardView) (source : Option (List ℕ)) (reads_before reads_after : ℕ) (before after : Option (List ℕ)) (writes_before writes_after status : ℕ) : Type 0 where
-  pub answers : IsTrue new.tells → (Z : List ℕ) (H : List (Entry I)) (text : List ℕ) → Lawful rules Z H → Stands rules Z H old.octets → source ≡ Some text → RunAnswers rules view scripts Z H text old new before after writes_before writes_after status
-  pub statuses : IsOneOf status (0 ∷ 3 ∷ 4 ∷ 5 ∷ 6 ∷ 7 ∷ 8 ∷ 9 ∷ 10 ∷ [])
-  -- 3 exactly where the file stands for no lawful history, unless opening it fails; then nothing is written to it at any moment, and
-  -- nothing issued
-  pub unformatted : status ≡ 3 → IsTrue new.tells → StandsForNone rules old.octets
-  pub is_unformatted : IsTrue new.tells → StandsForNone rules old.octets → (IsOneOf status (3 ∷ 7 ∷ 10 ∷ []) ⊎ ((status ≡ 9) × HasLimit view)) × IsUntouched old new
-  -- at 3 the last line alone is written, or part of it where the sink failed
-  pub says_unformatted : status ≡ 3 → (text : List ℕ) → before ≡ Some text → (part : List ℕ) × (after ≡ Some (text ++ part)) × IsPartOf part (last_line Unformatted) writes_before writes_after
-  -- where the file stands for none, so it is at each answer
-  pub says_none : IsTrue new.tells → StandsForNone rules old.octets → (stop : Stop) × (status ≡ status_of stop)
-      × ((text : List ℕ) → before ≡ Some text → (part : List ℕ) × (after ≡ Some (text ++ part)) × IsPartOf part (last_line stop) writes_before writes_after)
-  -- 6, 7 and 8 only where a count rose
-  pub input : status ≡ 6 → Rose reads_before reads_after
-  pub disk : status ≡ 7 → Rose old.disk_faults new.disk_faults
-  pub output : status ≡ 8 → Rose writes_before writes_after
-  -- 10 only before the first item, but for a machine that takes memory for its items
-  pub memory : status ≡ 10 → IsTrue rules.takes_memory ⊎ (IsTrue new.tells → IsUntouched old new)
-  -- where the file stands for a lawful history, all is right with the text and nothing fails, it ends with 0 or for want of memory
-  pub complete : IsTrue new.tells → (Z : List ℕ) (H : List (Entry I)) (text : List ℕ) → Lawful rules Z H → Stands rules Z H old.octets → source ≡ Some text → MayEnd rules view scripts Z H text
-      → IsOneOf status (0 ∷ 10 ∷ []) ⊎ (Rose reads_before reads_after ⊎ (Rose old.disk_faults new.disk_faults ⊎ Rose writes_before writes_after))
+-- a run of a file that isn't valid may end so: it says so, unless opening it fails
+abbrev pub MayRefuse : {I M : Type 0} → Kind I M → List ℕ → Ending → Type 0
+MayRefuse k file Unformatted = ⊤
+MayRefuse k file Disk = ⊤
+MayRefuse k file Memory = ⊤
+MayRefuse k file Full = HasOver k.rules file
+MayRefuse k file other = ⊥
+
+-- how a run may end
+abbrev pub IsRunEnd : Ending → Type 0
+IsRunEnd Usage = ⊥
+IsRunEnd Settings = ⊥
+IsRunEnd Formatted = ⊥
+IsRunEnd other = ⊤
+
+-- The text is good, no other script is unfinished, there is room for each entry, whatever the steps are told, and there was room for
+-- those in the file.
+pub record MayEnd {I M : Type 0} (k : Kind I M) (Z : List ℕ) (H : List (Entry I)) (text : List ℕ) : Type 0 where
+  pub good : bad_line (text_says k.scripts text) ≡ None
+  pub no_other : IsOther (script_of k.scripts H) (text_says k.scripts text) → ⊥
+  pub room : (tolds : List Told) → LacksRoom k.rules Z H (items_of_text k.scripts text H) tolds → ⊥
+  pub none_over : WasOver k.rules Z H → ⊥
+
+-- A call of `run`, and its status.
+pub record RunCall {I M : Type 0} (k : Kind I M) (old new : Outside) (status : ℕ) : Type 0 where
+  pub end : Ending
+  pub part : List ℕ
+  pub ends : EndsWith end part old.writes new.writes status
+  pub is_end : IsRunEnd end
+  pub answers : IsTrue new.board.tells → (Z : List ℕ) (H : List (Entry I)) (text : List ℕ) → Lawful k.rules Z H → Stands k.rules Z H old.board.octets → old.unread ≡ Some text → RunAnswers k Z H text old new end part
+  -- that the file isn't valid is said only where it isn't; and then nothing is written to it at any moment, and nothing issued, and
+  -- the last line stands alone
+  pub unformatted : end ≡ Unformatted → IsTrue new.board.tells → StandsForNone k.rules old.board.octets
+  pub is_unformatted : IsTrue new.board.tells → StandsForNone k.rules old.board.octets → MayRefuse k old.board.octets end × IsUntouched old.board new.board
+  pub alone : (end ≡ Unformatted) ⊎ (IsTrue new.board.tells × StandsForNone k.rules old.board.octets) → (text : List ℕ) → old.written ≡ Some text → new.written ≡ Some (text ++ part)
+  -- a failure has raised its count
+  pub input : end ≡ Input → Rose old.reads new.reads
+  pub disk : end ≡ Disk → Rose old.board.disk_faults new.board.disk_faults
+  pub output : end ≡ Output → Rose old.writes new.writes
+  -- and at status 0 no count of failures of the disk, the source or the sink rose
+  pub calm : status ≡ 0 → (new.board.disk_faults ≡ old.board.disk_faults) × (new.reads ≡ old.reads) × (new.writes ≡ old.writes)
+  -- out of memory before the first item, but for a machine that takes memory for its items
+  pub memory : end ≡ Memory → IsTrue k.rules.takes_memory ⊎ (IsTrue new.board.tells → IsUntouched old.board new.board)
+  -- a board that tells at the end told at the start, and one that told goes on to, unless the count of failed steps rose
+  pub tells : IsTrue new.board.tells → IsTrue old.board.tells
+  pub goes_on : IsTrue old.board.tells → IsTrue new.board.tells ⊎ Rose old.board.issue_faults new.board.issue_faults
+  -- where the file is valid, all is right with the text and nothing fails, it ends with 0 or out of memory
+  pub complete : IsTrue new.board.tells → (Z : List ℕ) (H : List (Entry I)) (text : List ℕ) → Lawful k.rules Z H → Stands k.rules Z H old.board.octets → old.unread ≡ Some text → MayEnd k Z H text
+      → (status ≡ 0) ⊎ ((status ≡ 10) ⊎ (Rose old.reads new.reads ⊎ (Rose old.board.disk_faults new.board.disk_faults ⊎ Rose old.writes new.writes)))

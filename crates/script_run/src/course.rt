@@ -2,7 +2,7 @@
 ghost use Rattle.std.specs.Prelude.{◌≡◌, ℕ};
 ghost use Rattle.script_run.specs.Course.{GivesCourse};
 
-use crate::stop::Stop;
+use crate::stop::ScriptStop;
 use pef_engine::Script;
 
 /// What is to be done with a script.
@@ -16,8 +16,8 @@ pub enum Course {
     Begins,
 }
 
-/// The course of a script of this id and count behind the script that was opened last. Refused where another one is unfinished.
-pub(crate) fn course_of(script: &Option<Script>, id: u32, count: u32) -> Result<Course, Stop>
+/// The course of a script of this ID and count behind the script that was opened last. Refused where another one is unfinished.
+pub(crate) fn course_of(script: &Option<Script>, id: u32, count: u32) -> Result<Course, ScriptStop>
     ensures { GivesCourse script.now id count result }
 {
     let Some(script) = script else {
@@ -25,7 +25,7 @@ pub(crate) fn course_of(script: &Option<Script>, id: u32, count: u32) -> Result<
     };
     let same = script.id == id && script.count == count;
     match (script.closed, same) {
-        (false, false) => Err(Stop::Unfinished {
+        (false, false) => Err(ScriptStop::Unfinished {
             id: script.id,
             count: script.count,
         }),

@@ -2,7 +2,6 @@
 #![tactic(auto)]
 
 mod course;
-mod head;
 mod playing;
 mod report;
 mod running;
@@ -11,4 +10,3 @@ mod stop;
 mod taking;
 
 pub use running::run;
-pub use stop::Stop;

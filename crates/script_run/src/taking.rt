@@ -1,24 +1,21 @@
 //! Taking what the lines of a script give.
-ghost use Rattle.std.specs.Prelude.{◌≡◌, ◌⊎◌, ◌↔◌, ◌≤◌, ◌<◌, ◌+◌, ℕ, List, [], ◌∷◌, Option, None, IsTrue, IsSome, OnOk, OnErr, IfOk, IsErr, IsErrOf};
-ghost use Rattle.board_core.specs.Causes.{Rose};
+ghost use Rattle.std.specs.Prelude.{◌≡◌, ◌⊎◌, ◌↔◌, ◌≤◌, ◌<◌, ◌+◌, ℕ, List, [], Option, Some, None, IsTrue, IsSome, IfSome, OnErr, IfOk, IsErrOf, length};
 ghost use Rattle.pef_engine.specs.declared.entry.Entry.{Entry};
-ghost use Rattle.pef_engine.specs.Engine.{Holds, IsLive, HasPlace};
+ghost use Rattle.pef_engine.specs.Engine.{IsLive, HasPlace};
 ghost use Rattle.script_text.specs.Lines.{lines_of};
-ghost use Rattle.script_text.specs.Reading.{HasLeft};
-ghost use Rattle.script_text.specs.Script.{given, GivesForm, HasCount};
+ghost use Rattle.script_text.specs.Script.{given};
 ghost use Rattle.script_run.specs.Items.{rest_of};
-ghost use Rattle.script_run.specs.Report.{says};
-ghost use Rattle.script_run.specs.Taking.{GivesEvent};
-ghost use Rattle.script_run.specs.Run.{RunsGiven, IsReadyFor, IsTaken, Answers};
+ghost use Rattle.script_run.specs.Going.{kind, world};
+ghost use Rattle.script_run.specs.Lines.{Input, input, Unread, Ran, Reads, Answers, HasRead, GivesItem, LineGives, IsReadyFor};
 
 use crate::settling::take_one;
-use crate::stop::Stop;
+use crate::stop::LineStop;
 use board_core::{Board, Sink, Source};
 use pef_engine::{Engine, Scripted};
-use script_text::{Form, Reader};
+use script_text::{Found, LineBuffer, Reader, is_end};
 
-/// Takes what the lines behind the head give, behind so many items that were taken before: the events, and then the closing
-/// item where no line is bad. Answers how many items were taken.
+/// Takes what the lines behind the head give, after those already taken: the items, and then the closing item where no line is bad.
+/// Answers how many items were taken.
 pub(crate) fn take_lines<M: Scripted, B: Board, S: Source, K: Sink>(
     engine: &mut Engine<M>,
     board: &mut B,
@@ -27,31 +24,24 @@ pub(crate) fn take_lines<M: Scripted, B: Board, S: Source, K: Sink>(
     reader: &mut Reader,
     count: u32,
     taken: u32,
-) -> Result<u32, Stop>
+) -> Result<u32, LineStop>
     requires live { IsLive engine.old }
     requires place { HasPlace (B.view board.old) engine.old }
     requires count { count ≤ 1000000 }
     requires taken { taken ≤ count }
     requires ready { IsReadyFor M.rules M.scripts (M.view engine.old.machine) count taken }
-    ensures runs { IsTrue (B.view board.new).tells → (Z : List ℕ) (H : List (Entry M.Item)) (text : List ℕ) →
-        Holds M.rules M.view Z H (B.view board.old) engine.old → HasLeft reader.old (S.left source.old) text →
-        RunsGiven M.rules M.view (says M.rules M.scripts) Z H (rest_of M.scripts taken (given (lines_of text) count 2)) (given (lines_of text) count 2).bad (B.view board.old) (B.view board.new) engine.new (K.written out.old) (K.written out.new) result }
-    ensures tells { IsTrue (B.view board.new).tells → IsTrue (B.view board.old).tells }
-    ensures faults { ((B.view board.old).disk_faults ≤ (B.view board.new).disk_faults) × (K.faults out.old ≤ K.faults out.new) × (S.faults source.old ≤ S.faults source.new) }
-    ensures disk { IsErrOf result Stop.Disk → Rose (B.view board.old).disk_faults (B.view board.new).disk_faults }
-    ensures output { IsErrOf result Stop.Output → Rose (K.faults out.old) (K.faults out.new) }
-    ensures input { IsErrOf result Stop.Input → Rose (S.faults source.old) (S.faults source.new) }
-    ensures memory { IsErrOf result Stop.Memory → IsTrue M.rules.takes_memory }
+    ensures ran { Ran (kind M.rules M.view M.scripts)
+        (world (B.view board.old) engine.old (K.written out.old) (K.faults out.old)) (world (B.view board.new) engine.new (K.written out.new) (K.faults out.new))
+        (input reader.old (S.left source.old) (S.faults source.old)) (input reader.new (S.left source.new) (S.faults source.new))
+        (count + 1) (λ text. rest_of M.scripts taken (given M.scripts.item_of (lines_of text) count 2)) (λ text. (given M.scripts.item_of (lines_of text) count 2).bad) result }
     ensures few { IfOk result (λ n. n ≤ count + 1) }
-    ensures idle { IsTaken result → (M.view engine.new.machine).due ≡ None }
-    ensures other { ((id count : ℕ) → IsErrOf result (Stop.Unfinished id count) → ⊥) × (IsErrOf result Stop.Unformatted → ⊥) }
 {
     let mut skip = taken;
     let mut left = count;
     let mut number = 2u32;
     let mut items = 0u32;
     'lines: loop {
-        let Some(octets) = next_event(reader, source, left, number)? else {
+        let Some(item) = next_item::<M, S>(reader, source, left, number)? else {
             take_one(engine, board, out, M::closing())?;
             return Ok(items + 1);
         };
@@ -61,28 +51,27 @@ pub(crate) fn take_lines<M: Scripted, B: Board, S: Source, K: Sink>(
             skip -= 1;
             continue 'lines;
         }
-        take_one(engine, board, out, M::event(octets))?;
+        take_one(engine, board, out, item)?;
         items += 1;
     }
 }
 
 /// Reads and checks the lines of a script that was closed before.
-pub(crate) fn pass_over<S: Source>(
+pub(crate) fn pass_over<M: Scripted, S: Source>(
     source: &mut S,
     reader: &mut Reader,
     count: u32,
-) -> Result<(), Stop>
+) -> Result<(), LineStop>
     requires count { count ≤ 1000000 }
-    ensures answers { (text : List ℕ) → HasLeft reader.old (S.left source.old) text → Answers (given (lines_of text) count 2).bad result }
-    ensures input { IsErrOf result Stop.Input → Rose (S.faults source.old) (S.faults source.new) }
-    ensures faults { S.faults source.old ≤ S.faults source.new }
-    ensures other { (IsErrOf result Stop.Disk → ⊥) × (IsErrOf result Stop.Output → ⊥) × (IsErrOf result Stop.Full → ⊥) × (IsErrOf result Stop.Memory → ⊥) × (IsErrOf result Stop.Unformatted → ⊥)
-        × ((id count : ℕ) → IsErrOf result (Stop.Unfinished id count) → ⊥) }
+    ensures answers { (text : List ℕ) → Unread (input reader.old (S.left source.old) (S.faults source.old)) text → Answers (given M.scripts.item_of (lines_of text) count 2).bad result }
+    ensures far { (text : List ℕ) → Unread (input reader.old (S.left source.old) (S.faults source.old)) text → HasRead (count + 1) text (input reader.new (S.left source.new) (S.faults source.new)) result }
+    ensures reads { Reads (input reader.old (S.left source.old) (S.faults source.old)) (input reader.new (S.left source.new) (S.faults source.new)) result }
+    ensures no_step { (stop : _) → IsErrOf result (LineStop.Step stop) → ⊥ }
 {
     let mut left = count;
     let mut number = 2u32;
     'lines: loop {
-        let Some(_) = next_event(reader, source, left, number)? else {
+        let Some(_) = next_item::<M, S>(reader, source, left, number)? else {
             return Ok(());
         };
         left -= 1;
@@ -90,51 +79,50 @@ pub(crate) fn pass_over<S: Source>(
     }
 }
 
-// The event of the next line, which has this number and behind whose head so many events are still to come; None where the line is
-// the end. Another line is bad, and so is an end too early or an event too many.
-fn next_event<S: Source>(
+// The item of the next line, which has this number and behind whose head so many items are still to come; None where the line is
+// the end. Another line is bad, and so is an end too early or an item too many.
+fn next_item<M: Scripted, S: Source>(
     reader: &mut Reader,
     source: &mut S,
     left: u32,
     number: u32,
-) -> Result<Option<[u8; 16]>, Stop>
-    ensures given { (text : List ℕ) → HasLeft reader.old (S.left source.old) text → GivesEvent text left number reader.new (S.left source.new) result }
-    ensures due { IfOk result (λ event. IsSome event ↔ (0 < left)) }
-    ensures line { OnErr result (IsErrOf result (Stop.Line number) ⊎ IsErrOf result Stop.Input) }
-    ensures input { IsErrOf result Stop.Input → Rose (S.faults source.old) (S.faults source.new) }
-    ensures faults { S.faults source.old ≤ S.faults source.new }
+) -> Result<Option<M::Item>, LineStop>
+    ensures given { (text : List ℕ) → Unread (input reader.old (S.left source.old) (S.faults source.old)) text →
+        GivesItem M.scripts.item_of text left number (input reader.new (S.left source.new) (S.faults source.new)) result }
+    ensures due { IfOk result (λ item. IsSome item ↔ (0 < left)) }
+    ensures item { IfOk result (λ item. IfSome item (λ i. M.rules.is_entry (Entry.Item i) × (line : List ℕ) × (M.scripts.item_of line ≡ Some i))) }
+    ensures line { OnErr result (IsErrOf result (LineStop.Line number) ⊎ IsErrOf result LineStop.Input) }
+    ensures reads { Reads (input reader.old (S.left source.old) (S.faults source.old)) (input reader.new (S.left source.new) (S.faults source.new)) result }
 {
-    let Some(form) = next_form(reader, source)? else {
-        return Err(Stop::Line(number));
-    };
-    match form {
-        Form::Event { octets } => {
-            if left == 0 {
-                return Err(Stop::Line(number));
-            }
-            Ok(Some(octets))
-        }
-        Form::End => {
-            if left != 0 {
-                return Err(Stop::Line(number));
-            }
-            Ok(None)
-        }
-        Form::Head { .. } => Err(Stop::Line(number)),
+    let mut line = LineBuffer::new();
+    match reader.line(source, &mut line) {
+        Ok(Found::Line) => item_at::<M>(line.as_slice(), left, number),
+        Ok(Found::TooLong) => Err(LineStop::Line(number)),
+        Ok(Found::End) => Err(LineStop::Line(number)),
+        Err(_) => Err(LineStop::Input),
     }
 }
 
-// The form of the next line, and None where it has none or no line comes.
-pub(crate) fn next_form<S: Source>(
-    reader: &mut Reader,
-    source: &mut S,
-) -> Result<Option<Form>, Stop>
-    ensures form { (text : List ℕ) → HasLeft reader.old (S.left source.old) text → IfOk result (GivesForm text reader.new (S.left source.new)) }
-    ensures count { IfOk result HasCount }
-    ensures input { (IsErr result → IsErrOf result Stop.Input) × ((IsErr result → Rose (S.faults source.old) (S.faults source.new)) × (S.faults source.old ≤ S.faults source.new)) }
+// The item of a line of at most 1,200 octets, and None where it is the end.
+fn item_at<M: Scripted>(line: &[u8], left: u32, number: u32) -> Result<Option<M::Item>, LineStop>
+    ensures given { length line.now ≤ 1200 → LineGives M.scripts.item_of line.now left number result }
+    ensures due { IfOk result (λ item. IsSome item ↔ (0 < left)) }
+    ensures item { IfOk result (λ item. IfSome item (λ i. M.rules.is_entry (Entry.Item i) × (M.scripts.item_of line.now ≡ Some i))) }
+    ensures line { OnErr result (IsErrOf result (LineStop.Line number)) }
 {
-    match reader.form(source) {
-        Ok(form) => Ok(form),
-        Err(_) => Err(Stop::Input),
+    let ended = is_end(line);
+    if left == 0 {
+        return if ended {
+            Ok(None)
+        } else {
+            Err(LineStop::Line(number))
+        };
+    }
+    if ended {
+        return Err(LineStop::Line(number));
+    }
+    match M::item_of(line) {
+        Some(item) => Ok(Some(item)),
+        None => Err(LineStop::Line(number)),
     }
 }

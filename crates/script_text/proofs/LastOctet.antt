@@ -1,5 +1,5 @@
 -- Octets without one such octet at their end.
-use Rattle.std.proofs.Common.{◌≡◌, ◌≢◌, ◌⊎◌, inl, inr, ℕ, true, false, nat_eq, List, [], ◌∷◌, ◌++◌, refl, sym, ap}
+use Rattle.std.proofs.Common.{◌≡◌, ◌≢◌, ◌⊎◌, inl, inr, ℕ, true, false, nat_eq, List, [], ◌∷◌, ◌++◌, length, take, refl, sym, ap}
 use Rattle.std.proofs.lemmas.Bool.{ne_eqb, eq-eqb}
 use Rattle.std.proofs.lemmas.Bool.Decides.{eqb_tells}
 use Rattle.script_text.specs.Lines.{without_last}
@@ -35,3 +35,7 @@ without_last-kept e line none = by (without_last-is e line)
     by : (line ≡ without_last e line) ⊎ (line ≡ without_last e line ++ e ∷ []) → without_last e line ≡ line
     by (inl same) = sym same
     by (inr shorter) = absurd (none (without_last e line) shorter)
+
+pub front_of-push : (front rest : List ℕ) → take (length front) (front ++ rest) ≡ front
+front_of-push [] rest = refl
+front_of-push (b ∷ front) rest = ap (λ l. b ∷ l) (front_of-push front rest)

@@ -1,9 +1,9 @@
 -- The lines of a text from its front.
-use Rattle.std.proofs.Common.{◌≡◌, ◌≢◌, ℕ, zero, suc, ◌<◌, ◌≤◌, Bool, true, false, ◌&&◌, nat_eq, if◌then◌else◌, List, [], ◌∷◌, ◌++◌, length, take, drop, Option, Some, None, refl, sym, ◌∙◌, ap, subst, arith, append_assoc, slice_index_or, get_or, IsTrue, ◌↔◌}
+use Rattle.std.proofs.Common.{◌≡◌, ◌≢◌, ℕ, zero, suc, ◌<◌, ◌≤◌, Bool, true, false, ◌&&◌, nat_eq, if◌then◌else◌, List, [], ◌∷◌, ◌++◌, length, take, drop, Option, Some, None, refl, sym, ◌∙◌, ap, subst, arith, append_assoc, slice_index_or, IsTrue, ◌↔◌}
 use Rattle.std.proofs.lemmas.List.{append-nil}
-use Rattle.std.proofs.lemmas.Bool.{ne_eqb, eq-eqb, false≢true}
-use Rattle.script_text.specs.Lines.{lines_of, begins_with, onto_first, without_last, HasNoEnd}
-use Rattle.script_text.specs.Reading.{HasLeft, IsTooLong, GivesOctet, Finds}
+use Rattle.std.proofs.lemmas.Bool.{ne_eqb, false≢true}
+use Rattle.script_text.specs.Lines.{lines_of, begins_with, onto_first, without_last, behind_line, ends, HasNoEnd}
+use Rattle.script_text.specs.Reading.{HasLeft, IsTooLong, GivesOctet, Finds, FailsWithin}
 use Rattle.script_text.proofs.Read.{IsReading}
 use Rattle.script_text.specs.declared.reader.Found.{Found}
 use Rattle.script_text.specs.declared.reader.Found.TheVariants.{Line, TooLong, End}
@@ -56,20 +56,6 @@ pub no_end-push : (line : List ℕ) (b : ℕ) → HasNoEnd line → b ≢ 10 →
 no_end-push [] b none other = (other, tt)
 no_end-push (a ∷ line) b none other = (none.0, no_end-push line b none.1 other)
 
-pub return_cut : (line : List ℕ) (n : ℕ) → length line ≡ suc n → get_or line n 0 ≡ 13 → take n line ≡ without_last 13 line
-return_cut [] n long last = absurd (omega (arith, long))
-return_cut (b ∷ []) zero long last = rw (eq-eqb b 13 last) refl
-return_cut (b ∷ []) (suc n) long last = absurd (omega (arith, long))
-return_cut (b ∷ c ∷ line) zero long last = absurd (omega (arith, long))
-return_cut (b ∷ c ∷ line) (suc n) long last = ap (λ l. b ∷ l) (return_cut (c ∷ line) n (omega (arith, long)) last)
-
-pub return_kept : (line : List ℕ) (n b : ℕ) → length line ≡ suc n → get_or line n 0 ≡ b → b ≢ 13 → line ≡ without_last 13 line
-return_kept [] n b long last other = refl
-return_kept (a ∷ []) zero b long last other = rw (ne_eqb a 13 (λ f. other (sym last ∙ f))) refl
-return_kept (a ∷ []) (suc n) b long last other = absurd (omega (arith, long))
-return_kept (a ∷ c ∷ line) zero b long last other = absurd (omega (arith, long))
-return_kept (a ∷ c ∷ line) (suc n) b long last other = ap (λ l. a ∷ l) (return_kept (c ∷ line) n b (omega (arith, long)) last other)
-
 -- what is held between two places of a chunk
 pub held_none : (chunk : List ℕ) (at end : ℕ) → at ≡ end → drop at (take end chunk) ≡ []
 held_none [] zero zero e = refl
@@ -109,19 +95,60 @@ reading_octet text line held next source after octet r gives = record {
 pub reading_over : (text line held next : List ℕ) (source after : Option (List ℕ)) → (r : IsReading text held source line) → GivesOctet r.rest next after None → text ≡ line
 reading_over text line held next source after r gives = r.whole ∙ ap (λ l. line ++ l) gives.0 ∙ append-nil line
 
+-- what is behind a line that was read
+behind_front : (line rest : List ℕ) → HasNoEnd line → behind_line (line ++ 10 ∷ rest) ≡ rest
+behind_front [] rest none = refl
+behind_front (b ∷ line) rest none = rw (ne_eqb b 10 none.0) (behind_front line rest none.1)
+
+behind_last : (line : List ℕ) → HasNoEnd line → behind_line line ≡ []
+behind_last [] none = refl
+behind_last (b ∷ line) none = rw (ne_eqb b 10 none.0) (behind_last line none.1)
+
+no_ends : (line : List ℕ) → HasNoEnd line → ends line ≡ 0
+no_ends [] none = refl
+no_ends (b ∷ line) none = rw (ne_eqb b 10 none.0) (no_ends line none.1)
+
 -- what was read is the next line
-pub names_ended : (text line held next : List ℕ) (source after : Option (List ℕ)) → (r : IsReading text held source line) → HasNoEnd line → (gives : GivesOctet r.rest next after (Some 10)) → lines_of text ≡ without_last 13 line ∷ lines_of gives.0
-names_ended text line held next source after r none gives = ap lines_of (r.whole ∙ ap (λ l. line ++ l) gives.1) ∙ lines_front line gives.0 none
+pub record IsNext (text held : List ℕ) (source : Option (List ℕ)) (line : List ℕ) : Type 0 where
+  pub left : HasLeft held source (behind_line text)
+  pub lines : lines_of text ≡ line ∷ lines_of (behind_line text)
 
-pub names_last : (text line : List ℕ) → HasNoEnd line → line ≢ [] → text ≡ line → lines_of text ≡ line ∷ lines_of []
-names_last text [] none some is = absurd (some refl)
-names_last text (b ∷ line) none some is = ap lines_of is ∙ lines_last b line none
+pub next_ended : (text line held next : List ℕ) (source after : Option (List ℕ)) → (r : IsReading text held source line) → HasNoEnd line → GivesOctet r.rest next after (Some 10) → IsNext text next after (without_last 13 line)
+next_ended text line held next source after r none gives =
+    let is = r.whole ∙ ap (λ l. line ++ l) gives.1 in
+    let behind = sym (ap behind_line is ∙ behind_front line gives.0 none) in record {
+      left = subst (HasLeft next after) behind gives.2;
+      lines = ap lines_of is ∙ lines_front line gives.0 none ∙ ap (λ l. without_last 13 line ∷ lines_of l) behind;
+    }
 
-pub finds : (text line rest held : List ℕ) (source : Option (List ℕ)) (found : Found) → (found ≡ Line → length line ≤ 1200) → (found ≡ TooLong → 1200 < length line) → (found ≡ End → ⊥)
-    → HasLeft held source rest → lines_of text ≡ line ∷ lines_of rest → Finds text held source line found
-finds text line rest held source Line fits long other left lines = record { rest = rest; left = left; lines = lines; fits = fits refl }
-finds text line rest held source TooLong fits long other left lines = record { line = line; more = lines_of rest; lines = lines; long = long refl }
-finds text line rest held source End fits long other left lines = absurd (other refl)
+pub next_last : (text line held next : List ℕ) (source after : Option (List ℕ)) → (r : IsReading text held source line) → HasNoEnd line → line ≢ [] → GivesOctet r.rest next after None → IsNext text next after line
+next_last text [] held next source after r none some gives = absurd (some refl)
+next_last text (b ∷ line) held next source after r none some gives =
+    let is = reading_over text (b ∷ line) held next source after r gives in
+    let behind = sym (ap behind_line is ∙ behind_last (b ∷ line) none) in record {
+      left = subst (HasLeft next after) behind gives.1;
+      lines = ap lines_of is ∙ lines_last b line none ∙ ap (λ l. (b ∷ line) ∷ lines_of l) behind;
+    }
+
+pub finds : (text line held : List ℕ) (source : Option (List ℕ)) (found : Found) → (found ≡ Line → length line ≤ 1200) → (found ≡ TooLong → 1200 < length line) → (found ≡ End → ⊥)
+    → IsNext text held source line → Finds text held source line found
+finds text line held source Line fits long other next = record { left = next.left; lines = next.lines; fits = fits refl }
+finds text line held source TooLong fits long other next = record { line = line; more = lines_of (behind_line text); lines = next.lines; long = long refl }
+finds text line held source End fits long other next = absurd (other refl)
+
+-- at the end of the text
+pub finds_last : (text line held next : List ℕ) (source after : Option (List ℕ)) (found : Found) → (found ≡ Line → (line ≢ []) × (length line ≤ 1200)) → (found ≡ TooLong → 1200 < length line) → (found ≡ End → line ≡ [])
+    → (r : IsReading text held source line) → HasNoEnd line → GivesOctet r.rest next after None → Finds text next after line found
+finds_last text line held next source after Line fits long over r none gives =
+    let is = next_last text line held next source after r none (fits refl).0 gives in record { left = is.left; lines = is.lines; fits = (fits refl).1 }
+finds_last text line held next source after TooLong fits long over r none gives =
+    let more = long refl in
+    let is = next_last text line held next source after r none (λ e. omega (arith, more, ap length e)) gives in record { line = line; more = lines_of (behind_line text); lines = is.lines; long = more }
+finds_last text line held next source after End fits long over r none gives = ap lines_of (reading_over text line held next source after r gives ∙ over refl)
+
+-- where a read fails no whole line was handed out
+pub fails_within : (text line held : List ℕ) (source after : Option (List ℕ)) → (r : IsReading text held source line) → HasNoEnd line → after ≡ Some r.rest → FailsWithin text after
+fails_within text line held source after r none unread = record { left = r.rest; unread = unread; front = line; whole = r.whole; no_end = no_ends line none }
 
 pub too_long : (text line held next : List ℕ) (source after : Option (List ℕ)) (octet : ℕ) → (r : IsReading text held source line) → HasNoEnd line → octet ≢ 10 → 1201 ≤ length line → GivesOctet r.rest next after (Some octet) → IsTooLong text
 too_long text [] held next source after octet r none other long gives = absurd (omega (arith, long))
@@ -135,7 +162,3 @@ too_long text (a ∷ line) held next source after octet r none other long gives 
 
 pub not_below : (m n : ℕ) (t : Bool) → t ≡ false → IsTrue t ↔ (m < n) → n ≤ m
 not_below m n t refused room = let h : (m < n) → ⊥ = λ below. false≢true (subst IsTrue refused (room.1 below)) in omega (arith, h)
-
-pub no_octets : (line : List ℕ) → length line ≡ 0 → line ≡ []
-no_octets [] none = refl
-no_octets (b ∷ line) none = absurd (omega (arith, none))

@@ -1,26 +1,16 @@
 -- Settings texts and their lines.
 use Rattle.std.proofs.Common.{◌≡◌, ◌≢◌, ◌⊎◌, inl, inr, ℕ, Bool, true, false, bytes_eq, codes, if◌then◌else◌, List, [], ◌∷◌, ◌++◌, length, drop, Option, Some, None, Result, Ok, Err, MatchOption, MatchResult, Bor, ◌+◌, ◌<◌, ◌≤◌, length-append, arith, refl, sym, ◌∙◌, ap}
-use Rattle.std.specs.Bool.{Decides}
-use Rattle.std.proofs.lemmas.Bool.{false≢true}
-use Rattle.std.proofs.lemmas.Slice.Eq.{bytes_eq-Decides}
 use Rattle.hex.specs.Hex.{decode_sized}
 use Rattle.hex.proofs.HexLemmas.{decode_sized-ok, decode_pairs-ok}
 use Rattle.hex.specs.declared.error.FromHexError.{FromHexError}
 use Rattle.script_text.specs.Lines.{without_last}
 use Rattle.script_text.specs.Whole.{text_limit}
 use Rattle.script_text.proofs.LastOctet.{without_last-push, without_last-other, without_last-is}
-use Rattle.script_text.proofs.Spelling.{decodes_pairs, same_octets}
+use Rattle.script_text.proofs.Spelling.{decodes_pairs, same_octets, same_test}
 use Rattle.script_text.specs.Settings.{settings_octets, settings_line, SpellsSettings, quoted, settings_with, settings_of_line, settings_of}
 
 quoted_line : (digits : List ℕ) → quoted (settings_line digits) ≡ digits
 quoted_line digits = without_last-push 34 digits
-
-same_test : (one : List ℕ) → bytes_eq one one ≡ true
-same_test one = by (bytes_eq one one) (bytes_eq-Decides one one)
-  where
-    by : (t : Bool) → Decides t (one ≡ one) → t ≡ true
-    by true d = refl
-    by false d = absurd (false≢true (d.1 refl))
 
 -- a line as the function reads it
 line_spelled : (digits : List ℕ) → settings_of_line (settings_line digits) ≡ settings_with (decode_sized digits 20)

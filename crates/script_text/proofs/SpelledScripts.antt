@@ -1,254 +1,276 @@
--- What a text says as a script is what it spells.
-use Rattle.std.proofs.Common.{◌≡◌, ◌≢◌, ℕ, zero, suc, ◌+◌, ◌≤◌, List, [], ◌∷◌, ◌++◌, length, map, Option, Some, None, refl, sym, ◌∙◌, ap, subst, arith}
-use Rattle.script_text.specs.declared.form.Form.{Form}
-use Rattle.script_text.specs.declared.form.Form.TheVariants.{Head, Event, End}
+-- What a text says as a script is what it spells, whatever items its lines give.
+use Rattle.std.proofs.Common.{◌≡◌, ◌≢◌, ℕ, zero, suc, ◌+◌, ◌≤◌, Bool, true, false, if◌then◌else◌, List, [], ◌∷◌, ◌++◌, length, map, Option, Some, None, refl, sym, ◌∙◌, ap, subst, arith}
+use Rattle.std.proofs.lemmas.Bool.{false≢true}
+use Rattle.script_text.specs.declared.head.Head.{Head}
 use Rattle.script_text.specs.Lines.{lines_of}
-use Rattle.script_text.specs.Script.{form_of_line, Given, bad_at, give_event, given_by, given, Said, said, said_by, said_of_lines, said_of, AreEvents, IsWholeScript, IsBadNext, HasBadLine, HasNoHead}
+use Rattle.script_text.specs.Forms.{is_end}
+use Rattle.script_text.specs.Script.{head_of, item_in, Given, bad_at, give_item, given_by, given, Said, said, said_by, said_of_lines, said_of, SpellsHead, AreItems, IsWholeScript, IsBadNext, HasBadLine, HasNoHead}
+use Rattle.script_text.proofs.Spelling.{head_spelled, spelled_head}
 
 -- the lines behind a head, from the first that isn't passed
-record IsWhole (lines : List (List ℕ)) (left : ℕ) (events : List (List ℕ)) : Type 0 where
-  items : List (List ℕ)
+record IsWhole {I : Type 0} (item_of : List ℕ → Option I) (lines : List (List ℕ)) (left : ℕ) (items : List I) : Type 0 where
+  between : List (List ℕ)
   last : List ℕ
   behind : List (List ℕ)
-  are : lines ≡ items ++ last ∷ behind
-  are_events : AreEvents items events
-  counted : length events ≡ left
-  is_end : form_of_line last ≡ Some End
+  are : lines ≡ between ++ last ∷ behind
+  are_items : AreItems item_of between items
+  counted : length items ≡ left
+  ended : is_end last ≡ true
 
-record IsBad (lines : List (List ℕ)) (left : ℕ) (events : List (List ℕ)) : Type 0 where
-  items : List (List ℕ)
+record IsBad {I : Type 0} (item_of : List ℕ → Option I) (lines : List (List ℕ)) (left : ℕ) (items : List I) : Type 0 where
+  between : List (List ℕ)
   behind : List (List ℕ)
-  are : lines ≡ items ++ behind
-  are_events : AreEvents items events
-  within : length events ≤ left
-  is_bad : IsBadNext (length events) left behind
+  are : lines ≡ between ++ behind
+  are_items : AreItems item_of between items
+  within : length items ≤ left
+  is_bad : IsBadNext item_of (length items) left behind
 
-abbrev made : List (List ℕ) → Option ℕ → Given
-made events bad = record { events = events; bad = bad }
+abbrev made : {I : Type 0} → List I → Option ℕ → Given I
+made items bad = record { items = items; bad = bad }
 
--- one line
-whole_step : (f : Option Form) (left number : ℕ) (line : List ℕ) (lines : List (List ℕ)) (events : List (List ℕ)) → form_of_line line ≡ f
-    → ((fewer : ℕ) (events : List (List ℕ)) → given lines fewer (number + 1) ≡ made events None → IsWhole lines fewer events)
-    → given_by f left number (λ fewer. given lines fewer (number + 1)) ≡ made events None → IsWhole (line ∷ lines) left events
-whole_step (Some (Event octets)) (suc left) number line lines events form behind gives =
-    let g = given lines left (number + 1) in
-    let is : octets ∷ g.events ≡ events = ap (λ (g : Given). g.events) gives in
-    let none : g.bad ≡ None = ap (λ (g : Given). g.bad) gives in
-    let w = behind left g.events (ap (made g.events) none) in
-    subst (IsWhole (line ∷ lines) (suc left)) is (record {
-      items = line ∷ w.items;
+-- items and the end, line by line
+ended_here : {I : Type 0} (item_of : List ℕ → Option I) (t : Bool) (number : ℕ) (line : List ℕ) (lines : List (List ℕ)) (items : List I) → is_end line ≡ t
+    → (if t then made [] None else bad_at number) ≡ made items None → IsWhole item_of (line ∷ lines) zero items
+ended_here {I} item_of true number line lines items ended gives =
+    subst (IsWhole item_of (line ∷ lines) zero) (ap (λ (g : Given I). g.items) gives)
+    (record { between = []; last = line; behind = lines; are = refl; are_items = refl; counted = refl; ended = ended })
+ended_here {I} item_of false number line lines items ended gives = absurd (cc (ap (λ (g : Given I). g.bad) gives))
+
+whole_step : {I : Type 0} (item_of : List ℕ → Option I) (o : Option I) (left number : ℕ) (line : List ℕ) (lines : List (List ℕ)) (items : List I) → item_in item_of line ≡ o
+    → ((more : List I) → given item_of lines left (number + 1) ≡ made more None → IsWhole item_of lines left more)
+    → given_by o number (given item_of lines left (number + 1)) ≡ made items None → IsWhole item_of (line ∷ lines) (suc left) items
+whole_step {I} item_of (Some item) left number line lines items has behind gives =
+    let g = given item_of lines left (number + 1) in
+    let is : item ∷ g.items ≡ items = ap (λ (g : Given I). g.items) gives in
+    let none : g.bad ≡ None = ap (λ (g : Given I). g.bad) gives in
+    let w = behind g.items (ap (made g.items) none) in
+    subst (IsWhole item_of (line ∷ lines) (suc left)) is (record {
+      between = line ∷ w.between;
       last = w.last;
       behind = w.behind;
       are = ap (λ l. line ∷ l) w.are;
-      are_events = ap (λ f. f ∷ map form_of_line w.items) form ∙ ap (λ l. Some (Event octets) ∷ l) w.are_events;
+      are_items = ap (λ o. o ∷ map (item_in item_of) w.between) has ∙ ap (λ l. Some item ∷ l) w.are_items;
       counted = omega (arith, w.counted);
-      is_end = w.is_end;
+      ended = w.ended;
     })
-whole_step (Some (Event octets)) zero number line lines events form behind gives = absurd (cc (ap (λ (g : Given). g.bad) gives))
-whole_step (Some End) (suc left) number line lines events form behind gives = absurd (cc (ap (λ (g : Given). g.bad) gives))
-whole_step (Some End) zero number line lines events form behind gives =
-    subst (IsWhole (line ∷ lines) zero) (ap (λ (g : Given). g.events) gives) (record { items = []; last = line; behind = lines; are = refl; are_events = refl; counted = refl; is_end = form })
-whole_step (Some (Head id count)) left number line lines events form behind gives = absurd (cc (ap (λ (g : Given). g.bad) gives))
-whole_step None left number line lines events form behind gives = absurd (cc (ap (λ (g : Given). g.bad) gives))
+whole_step {I} item_of None left number line lines items has behind gives = absurd (cc (ap (λ (g : Given I). g.bad) gives))
 
-given_whole : (lines : List (List ℕ)) (left number : ℕ) (events : List (List ℕ)) → given lines left number ≡ made events None → IsWhole lines left events
-given_whole [] left number events gives = absurd (cc (ap (λ (g : Given). g.bad) gives))
-given_whole (line ∷ lines) left number events gives =
-    whole_step (form_of_line line) left number line lines events refl (λ fewer more is. given_whole lines fewer (number + 1) more is) gives
+given_whole : {I : Type 0} (item_of : List ℕ → Option I) (lines : List (List ℕ)) (left number : ℕ) (items : List I) → given item_of lines left number ≡ made items None → IsWhole item_of lines left items
+given_whole {I} item_of [] left number items gives = absurd (cc (ap (λ (g : Given I). g.bad) gives))
+given_whole item_of (line ∷ lines) zero number items gives = ended_here item_of (is_end line) number line lines items refl gives
+given_whole item_of (line ∷ lines) (suc left) number items gives =
+    whole_step item_of (item_in item_of line) left number line lines items refl (λ more is. given_whole item_of lines left (number + 1) more is) gives
 
-event_gives : (line octets : List ℕ) (lines : List (List ℕ)) (left number : ℕ) (g : Given) → form_of_line line ≡ Some (Event octets) → given lines left (number + 1) ≡ g → given (line ∷ lines) (suc left) number ≡ give_event octets g
-event_gives line octets lines left number g form is = ap (λ f. given_by f (suc left) number (λ fewer. given lines fewer (number + 1))) form ∙ ap (give_event octets) is
+item_gives : {I : Type 0} (item_of : List ℕ → Option I) (line : List ℕ) (item : I) (lines : List (List ℕ)) (left number : ℕ) (g : Given I) → item_in item_of line ≡ Some item
+    → given item_of lines left (number + 1) ≡ g → given item_of (line ∷ lines) (suc left) number ≡ give_item item g
+item_gives item_of line item lines left number g has is = ap (λ o. given_by o number (given item_of lines left (number + 1))) has ∙ ap (give_item item) is
 
 -- the first of lists that are one by one the same
-first_same : (line octets : List ℕ) (items events : List (List ℕ)) → AreEvents (line ∷ items) (octets ∷ events) → (form_of_line line ≡ Some (Event octets)) × AreEvents items events
-first_same line octets items events are = (cc, cc)
+first_same : {I : Type 0} (item_of : List ℕ → Option I) (line : List ℕ) (item : I) (between : List (List ℕ)) (items : List I) → AreItems item_of (line ∷ between) (item ∷ items)
+    → (item_in item_of line ≡ Some item) × AreItems item_of between items
+first_same item_of line item between items are = (cc, cc)
 
-whole_given : (items events : List (List ℕ)) (last : List ℕ) (behind : List (List ℕ)) (number : ℕ) → AreEvents items events → form_of_line last ≡ Some End → given (items ++ last ∷ behind) (length events) number ≡ made events None
-whole_given [] [] last behind number are end = ap (λ f. given_by f 0 number (λ fewer. given behind fewer (number + 1))) end
-whole_given [] (octets ∷ events) last behind number are end = absurd (cc are)
-whole_given (line ∷ items) [] last behind number are end = absurd (cc are)
-whole_given (line ∷ items) (octets ∷ events) last behind number are end =
-    let s = first_same line octets items events are in
-    event_gives line octets (items ++ last ∷ behind) (length events) number (made events None) s.0 (whole_given items events last behind (number + 1) s.1 end)
+whole_given : {I : Type 0} (item_of : List ℕ → Option I) (between : List (List ℕ)) (items : List I) (last : List ℕ) (behind : List (List ℕ)) (number : ℕ) → AreItems item_of between items → is_end last ≡ true
+    → given item_of (between ++ last ∷ behind) (length items) number ≡ made items None
+whole_given item_of [] [] last behind number are ended = ap (λ t. if t then made [] None else bad_at number) ended
+whole_given item_of [] (item ∷ items) last behind number are ended = absurd (cc are)
+whole_given item_of (line ∷ between) [] last behind number are ended = absurd (cc are)
+whole_given item_of (line ∷ between) (item ∷ items) last behind number are ended =
+    let s = first_same item_of line item between items are in
+    item_gives item_of line item (between ++ last ∷ behind) (length items) number (made items None) s.0 (whole_given item_of between items last behind (number + 1) s.1 ended)
 
--- a head that isn't taken for an item, and the like
-bad_now : (f : Option Form) (left number bad : ℕ) (line : List ℕ) (lines events : List (List ℕ)) → form_of_line line ≡ f
-    → ((octets : List ℕ) → f ≡ Some (Event octets) → 0 ≡ left) → (f ≡ Some End → 0 ≢ left)
-    → bad_at number ≡ made events (Some bad) → IsBad (line ∷ lines) left events × (bad ≡ number + length events)
-bad_now f left number bad line lines events form no_event no_end gives =
-    let none : [] ≡ events = ap (λ (g : Given). g.events) gives in
-    let some : Some number ≡ Some bad = ap (λ (g : Given). g.bad) gives in
+-- the first of these lines is bad
+bad_now : {I : Type 0} (item_of : List ℕ → Option I) (lines : List (List ℕ)) (left number bad : ℕ) (items : List I) → IsBadNext item_of 0 left lines
+    → bad_at number ≡ made items (Some bad) → IsBad item_of lines left items × (bad ≡ number + length items)
+bad_now {I} item_of lines left number bad items next gives =
+    let none : [] ≡ items = ap (λ (g : Given I). g.items) gives in
+    let some : Some number ≡ Some bad = ap (λ (g : Given I). g.bad) gives in
     let same : number ≡ bad = cc in
-    let long : 0 ≡ length events = ap length none in (
-      subst (IsBad (line ∷ lines) left) none (record {
-        items = [];
-        behind = line ∷ lines;
-        are = refl;
-        are_events = refl;
-        within = omega arith;
-        is_bad = (λ octets e. no_event octets (sym form ∙ e), λ e. no_end (sym form ∙ e));
-      }),
+    let long : 0 ≡ length items = ap length none in (
+      subst (IsBad item_of lines left) none (record { between = []; behind = lines; are = refl; are_items = refl; within = omega arith; is_bad = next }),
       omega (arith, same, long),
     )
 
-suc_bad : (taken count : ℕ) (behind : List (List ℕ)) → IsBadNext taken count behind → IsBadNext (suc taken) (suc count) behind
-suc_bad taken count [] bad = tt
-suc_bad taken count (line ∷ lines) bad = (λ octets e. ap suc (bad.0 octets e), λ e same. bad.1 e (omega (arith, same)))
+end_bad : {I : Type 0} (item_of : List ℕ → Option I) (t : Bool) (number bad : ℕ) (line : List ℕ) (lines : List (List ℕ)) (items : List I) → is_end line ≡ t
+    → (if t then made [] None else bad_at number) ≡ made items (Some bad) → IsBad item_of (line ∷ lines) zero items × (bad ≡ number + length items)
+end_bad {I} item_of true number bad line lines items ended gives = absurd (cc (ap (λ (g : Given I). g.bad) gives))
+end_bad item_of false number bad line lines items other gives =
+    bad_now item_of (line ∷ lines) zero number bad items (λ item e. refl, λ e. absurd (false≢true (sym other ∙ e))) gives
 
-bad_step : (f : Option Form) (left number bad : ℕ) (line : List ℕ) (lines events : List (List ℕ)) → form_of_line line ≡ f
-    → ((fewer : ℕ) (events : List (List ℕ)) → given lines fewer (number + 1) ≡ made events (Some bad) → IsBad lines fewer events × (bad ≡ number + 1 + length events))
-    → given_by f left number (λ fewer. given lines fewer (number + 1)) ≡ made events (Some bad) → IsBad (line ∷ lines) left events × (bad ≡ number + length events)
-bad_step (Some (Event octets)) (suc left) number bad line lines events form behind gives =
-    let g = given lines left (number + 1) in
-    let is : octets ∷ g.events ≡ events = ap (λ (g : Given). g.events) gives in
-    let some : g.bad ≡ Some bad = ap (λ (g : Given). g.bad) gives in
-    let w = behind left g.events (ap (made g.events) some) in
+suc_bad : {I : Type 0} (item_of : List ℕ → Option I) (taken count : ℕ) (behind : List (List ℕ)) → IsBadNext item_of taken count behind → IsBadNext item_of (suc taken) (suc count) behind
+suc_bad item_of taken count [] bad = tt
+suc_bad item_of taken count (line ∷ lines) bad = (λ item e. ap suc (bad.0 item e), λ e same. bad.1 e (omega (arith, same)))
+
+bad_step : {I : Type 0} (item_of : List ℕ → Option I) (o : Option I) (left number bad : ℕ) (line : List ℕ) (lines : List (List ℕ)) (items : List I) → item_in item_of line ≡ o
+    → ((more : List I) → given item_of lines left (number + 1) ≡ made more (Some bad) → IsBad item_of lines left more × (bad ≡ number + 1 + length more))
+    → given_by o number (given item_of lines left (number + 1)) ≡ made items (Some bad) → IsBad item_of (line ∷ lines) (suc left) items × (bad ≡ number + length items)
+bad_step {I} item_of (Some item) left number bad line lines items has behind gives =
+    let g = given item_of lines left (number + 1) in
+    let is : item ∷ g.items ≡ items = ap (λ (g : Given I). g.items) gives in
+    let some : g.bad ≡ Some bad = ap (λ (g : Given I). g.bad) gives in
+    let w = behind g.items (ap (made g.items) some) in
     let b = w.0 in
     let number_is = w.1 in
-    let long : length (octets ∷ g.events) ≡ length events = ap length is in (
-      subst (IsBad (line ∷ lines) (suc left)) is (record {
-        items = line ∷ b.items;
+    let long : length (item ∷ g.items) ≡ length items = ap length is in (
+      subst (IsBad item_of (line ∷ lines) (suc left)) is (record {
+        between = line ∷ b.between;
         behind = b.behind;
         are = ap (λ l. line ∷ l) b.are;
-        are_events = ap (λ f. f ∷ map form_of_line b.items) form ∙ ap (λ l. Some (Event octets) ∷ l) b.are_events;
+        are_items = ap (λ o. o ∷ map (item_in item_of) b.between) has ∙ ap (λ l. Some item ∷ l) b.are_items;
         within = let w = b.within in omega (arith, w);
-        is_bad = suc_bad (length g.events) left b.behind b.is_bad;
+        is_bad = suc_bad item_of (length g.items) left b.behind b.is_bad;
       }),
       omega (arith, number_is, long),
     )
-bad_step (Some (Event octets)) zero number bad line lines events form behind gives = bad_now (Some (Event octets)) zero number bad line lines events form (λ more e. refl) (λ e. absurd (cc e)) gives
-bad_step (Some End) (suc left) number bad line lines events form behind gives = bad_now (Some End) (suc left) number bad line lines events form (λ more e. absurd (cc e)) (λ e same. omega (arith, same)) gives
-bad_step (Some End) zero number bad line lines events form behind gives = absurd (cc (ap (λ (g : Given). g.bad) gives))
-bad_step (Some (Head id count)) left number bad line lines events form behind gives = bad_now (Some (Head id count)) left number bad line lines events form (λ more e. absurd (cc e)) (λ e. absurd (cc e)) gives
-bad_step None left number bad line lines events form behind gives = bad_now None left number bad line lines events form (λ more e. absurd (cc e)) (λ e. absurd (cc e)) gives
+bad_step {I} item_of None left number bad line lines items has behind gives =
+    let no_item : (item : I) → item_in item_of line ≡ Some item → 0 ≡ suc left = λ item e. absurd (cc (sym has ∙ e)) in
+    bad_now item_of (line ∷ lines) (suc left) number bad items (no_item, λ e same. omega (arith, same)) gives
 
-given_bad : (lines : List (List ℕ)) (left number bad : ℕ) (events : List (List ℕ)) → given lines left number ≡ made events (Some bad) → IsBad lines left events × (bad ≡ number + length events)
-given_bad [] left number bad events gives =
-    let none : [] ≡ events = ap (λ (g : Given). g.events) gives in
-    let some : Some number ≡ Some bad = ap (λ (g : Given). g.bad) gives in
-    let same : number ≡ bad = cc in
-    let long : 0 ≡ length events = ap length none in
-    (subst (IsBad [] left) none (record { items = []; behind = []; are = refl; are_events = refl; within = omega arith; is_bad = tt }), omega (arith, same, long))
-given_bad (line ∷ lines) left number bad events gives =
-    bad_step (form_of_line line) left number bad line lines events refl (λ fewer more is. given_bad lines fewer (number + 1) bad more is) gives
+given_bad : {I : Type 0} (item_of : List ℕ → Option I) (lines : List (List ℕ)) (left number bad : ℕ) (items : List I) → given item_of lines left number ≡ made items (Some bad)
+    → IsBad item_of lines left items × (bad ≡ number + length items)
+given_bad item_of [] left number bad items gives = bad_now item_of [] left number bad items tt gives
+given_bad item_of (line ∷ lines) zero number bad items gives = end_bad item_of (is_end line) number bad line lines items refl gives
+given_bad item_of (line ∷ lines) (suc left) number bad items gives =
+    bad_step item_of (item_in item_of line) left number bad line lines items refl (λ more is. given_bad item_of lines left (number + 1) bad more is) gives
 
-next_gives : (f : Option Form) (line : List ℕ) (lines : List (List ℕ)) (left number : ℕ) → ((octets : List ℕ) → f ≡ Some (Event octets) → 0 ≡ left) → (f ≡ Some End → 0 ≢ left)
-    → given_by f left number (λ fewer. given lines fewer (number + 1)) ≡ bad_at number
-next_gives (Some (Event octets)) line lines (suc left) number no_event no_end = let same = no_event octets refl in absurd (omega (arith, same))
-next_gives (Some (Event octets)) line lines zero number no_event no_end = refl
-next_gives (Some End) line lines (suc left) number no_event no_end = refl
-next_gives (Some End) line lines zero number no_event no_end = absurd (no_end refl refl)
-next_gives (Some (Head id count)) line lines left number no_event no_end = refl
-next_gives None line lines left number no_event no_end = refl
+no_end_gives : {I : Type 0} (t : Bool) (number : ℕ) → (t ≡ true → zero ≢ zero) → (if t then made {I = I} [] None else bad_at number) ≡ bad_at number
+no_end_gives true number no_end = absurd (no_end refl refl)
+no_end_gives false number no_end = refl
 
-pred_bad : (taken count : ℕ) (behind : List (List ℕ)) → IsBadNext (suc taken) (suc count) behind → IsBadNext taken count behind
-pred_bad taken count [] bad = tt
-pred_bad taken count (line ∷ lines) bad = (λ octets e. let same = bad.0 octets e in omega (arith, same), λ e same. bad.1 e (ap suc same))
+no_item_gives : {I : Type 0} (o : Option I) (left number : ℕ) (behind : Given I) → ((item : I) → o ≡ Some item → 0 ≡ suc left) → given_by o number behind ≡ bad_at number
+no_item_gives (Some item) left number behind no_item = let same = no_item item refl in absurd (omega (arith, same))
+no_item_gives None left number behind no_item = refl
 
-bad_given : (items events : List (List ℕ)) (behind : List (List ℕ)) (left number : ℕ) → AreEvents items events → length events ≤ left → IsBadNext (length events) left behind
-    → given (items ++ behind) left number ≡ made events (Some (length events + number))
-bad_given [] [] [] left number are within bad = let sum : number ≡ 0 + number = omega arith in ap (λ n. made [] (Some n)) sum
-bad_given [] [] (line ∷ lines) left number are within bad =
-    let sum : number ≡ 0 + number = omega arith in next_gives (form_of_line line) line lines left number bad.0 bad.1 ∙ ap (λ n. made [] (Some n)) sum
-bad_given [] (octets ∷ events) behind left number are within bad = absurd (cc are)
-bad_given (line ∷ items) [] behind left number are within bad = absurd (cc are)
-bad_given (line ∷ items) (octets ∷ events) behind zero number are within bad = absurd (omega (arith, within))
-bad_given (line ∷ items) (octets ∷ events) behind (suc left) number are within bad =
-    let s = first_same line octets items events are in
-    let sum : length events + (number + 1) ≡ length (octets ∷ events) + number = omega arith in
-    event_gives line octets (items ++ behind) left number (made events (Some (length events + (number + 1)))) s.0
-    (bad_given items events behind left (number + 1) s.1 (omega (arith, within)) (pred_bad (length events) left behind bad))
-    ∙ ap (λ n. made (octets ∷ events) (Some n)) sum
+next_gives : {I : Type 0} (item_of : List ℕ → Option I) (line : List ℕ) (lines : List (List ℕ)) (left number : ℕ) → IsBadNext item_of 0 left (line ∷ lines)
+    → given item_of (line ∷ lines) left number ≡ bad_at number
+next_gives item_of line lines zero number next = no_end_gives (is_end line) number next.1
+next_gives item_of line lines (suc left) number next = no_item_gives (item_in item_of line) left number (given item_of lines left (number + 1)) next.0
+
+pred_bad : {I : Type 0} (item_of : List ℕ → Option I) (taken count : ℕ) (behind : List (List ℕ)) → IsBadNext item_of (suc taken) (suc count) behind → IsBadNext item_of taken count behind
+pred_bad item_of taken count [] bad = tt
+pred_bad item_of taken count (line ∷ lines) bad = (λ item e. let same = bad.0 item e in omega (arith, same), λ e same. bad.1 e (ap suc same))
+
+bad_given : {I : Type 0} (item_of : List ℕ → Option I) (between : List (List ℕ)) (items : List I) (behind : List (List ℕ)) (left number : ℕ) → AreItems item_of between items → length items ≤ left
+    → IsBadNext item_of (length items) left behind → given item_of (between ++ behind) left number ≡ made items (Some (length items + number))
+bad_given item_of [] [] [] left number are within bad = let sum : number ≡ 0 + number = omega arith in ap (λ n. made [] (Some n)) sum
+bad_given item_of [] [] (line ∷ lines) left number are within bad =
+    let sum : number ≡ 0 + number = omega arith in next_gives item_of line lines left number bad ∙ ap (λ n. made [] (Some n)) sum
+bad_given item_of [] (item ∷ items) behind left number are within bad = absurd (cc are)
+bad_given item_of (line ∷ between) [] behind left number are within bad = absurd (cc are)
+bad_given item_of (line ∷ between) (item ∷ items) behind zero number are within bad = absurd (omega (arith, within))
+bad_given item_of (line ∷ between) (item ∷ items) behind (suc left) number are within bad =
+    let s = first_same item_of line item between items are in
+    let sum : length items + (number + 1) ≡ length (item ∷ items) + number = omega arith in
+    item_gives item_of line item (between ++ behind) left number (made items (Some (length items + (number + 1)))) s.0
+    (bad_given item_of between items behind left (number + 1) s.1 (omega (arith, within)) (pred_bad item_of (length items) left behind bad))
+    ∙ ap (λ n. made (item ∷ items) (Some n)) sum
 
 -- a whole text
-whole_lines : (f : Option Form) (id count : ℕ) (events : List (List ℕ)) (line : List ℕ) (lines : List (List ℕ)) (text : List ℕ) → lines_of text ≡ line ∷ lines → form_of_line line ≡ f
-    → said_by f lines ≡ Some (said id count events None) → IsWholeScript id count events text
-whole_lines (Some (Head name number)) id count events line lines text are form says =
-    let told : record { id = name; count = number; given = given lines number 2 } ≡ said id count events None = cc in
-    let id_is : name ≡ id = ap (λ (s : Said). s.id) told in
-    let count_is : number ≡ count = ap (λ (s : Said). s.count) told in
-    let w = given_whole lines number 2 events (ap (λ (s : Said). s.given) told) in
-    record {
-      head = line;
-      items = w.items;
-      last = w.last;
-      behind = w.behind;
-      lines = are ∙ ap (λ l. line ∷ l) w.are;
-      is_head = form ∙ ap (λ n. Some (Head n number)) id_is ∙ ap (λ n. Some (Head id n)) count_is;
-      are_events = w.are_events;
-      counted = w.counted ∙ count_is;
-      is_end = w.is_end;
-    }
-whole_lines (Some (Event octets)) id count events line lines text are form says = absurd (cc says)
-whole_lines (Some End) id count events line lines text are form says = absurd (cc says)
-whole_lines None id count events line lines text are form says = absurd (cc says)
+abbrev told : {I : Type 0} → Head → Given I → Said I
+told head given = record { id = head.id; count = head.count; given = given }
 
-pub says_whole : (text : List ℕ) (id count : ℕ) (events : List (List ℕ)) → said_of text ≡ Some (said id count events None) → IsWholeScript id count events text
-says_whole text id count events says = by (lines_of text) refl says
+head_is : (word line : List ℕ) (head : Head) (id count : ℕ) → head_of word line ≡ Some head → head.id ≡ id → head.count ≡ count → SpellsHead word id count line
+head_is word line head id count has id_is count_is =
+    subst (λ n. SpellsHead word n count line) id_is (subst (λ n. SpellsHead word head.id n line) count_is (head_spelled word line head has))
+
+whole_text : {I : Type 0} (word : List ℕ) (item_of : List ℕ → Option I) (id count left : ℕ) (items : List I) (line : List ℕ) (lines : List (List ℕ)) (text : List ℕ)
+    → lines_of text ≡ line ∷ lines → SpellsHead word id count line → left ≡ count → IsWhole item_of lines left items → IsWholeScript word item_of id count items text
+whole_text word item_of id count left items line lines text are head all w = record {
+  head = line;
+  between = w.between;
+  last = w.last;
+  behind = w.behind;
+  lines = are ∙ ap (λ l. line ∷ l) w.are;
+  is_head = head;
+  are_items = w.are_items;
+  counted = w.counted ∙ all;
+  ended = w.ended;
+}
+
+whole_lines : {I : Type 0} (word : List ℕ) (item_of : List ℕ → Option I) (o : Option Head) (id count : ℕ) (items : List I) (line : List ℕ) (lines : List (List ℕ)) (text : List ℕ)
+    → lines_of text ≡ line ∷ lines → head_of word line ≡ o → said_by item_of o lines ≡ Some (said id count items None) → IsWholeScript word item_of id count items text
+whole_lines {I} word item_of (Some head) id count items line lines text are has says =
+    let is : told head (given item_of lines head.count 2) ≡ said id count items None = cc in
+    let all : head.count ≡ count = ap (λ (s : Said I). s.count) is in
+    whole_text word item_of id count head.count items line lines text are (head_is word line head id count has (ap (λ (s : Said I). s.id) is) all) all
+    (given_whole item_of lines head.count 2 items (ap (λ (s : Said I). s.given) is))
+whole_lines word item_of None id count items line lines text are has says = absurd (cc says)
+
+pub says_whole : {I : Type 0} (word : List ℕ) (item_of : List ℕ → Option I) (text : List ℕ) (id count : ℕ) (items : List I) → said_of word item_of text ≡ Some (said id count items None)
+    → IsWholeScript word item_of id count items text
+says_whole word item_of text id count items says = by (lines_of text) refl says
   where
-    by : (lines : List (List ℕ)) → lines_of text ≡ lines → said_of_lines lines ≡ Some (said id count events None) → IsWholeScript id count events text
+    by : (lines : List (List ℕ)) → lines_of text ≡ lines → said_of_lines word item_of lines ≡ Some (said id count items None) → IsWholeScript word item_of id count items text
     by [] are says = absurd (cc says)
-    by (line ∷ lines) are says = whole_lines (form_of_line line) id count events line lines text are refl says
+    by (line ∷ lines) are says = whole_lines word item_of (head_of word line) id count items line lines text are refl says
 
-pub whole_says : (text : List ℕ) (id count : ℕ) (events : List (List ℕ)) → IsWholeScript id count events text → said_of text ≡ Some (said id count events None)
-whole_says text id count events w =
-    ap said_of_lines w.lines ∙ ap (λ f. said_by f (w.items ++ w.last ∷ w.behind)) w.is_head
-    ∙ ap (λ n. Some (record { id = id; count = count; given = given (w.items ++ w.last ∷ w.behind) n 2 })) (sym w.counted)
-    ∙ ap (λ g. Some (record { id = id; count = count; given = g })) (whole_given w.items events w.last w.behind 2 w.are_events w.is_end)
+head_at : ℕ → ℕ → Head
+head_at id count = record { id = id; count = count }
 
-bad_lines : (f : Option Form) (id count : ℕ) (events : List (List ℕ)) (number : ℕ) (line : List ℕ) (lines : List (List ℕ)) (text : List ℕ) → lines_of text ≡ line ∷ lines → form_of_line line ≡ f
-    → said_by f lines ≡ Some (said id count events (Some number)) → HasBadLine id count events number text
-bad_lines (Some (Head name many)) id count events number line lines text are form says =
-    let told : record { id = name; count = many; given = given lines many 2 } ≡ said id count events (Some number) = cc in
-    let id_is : name ≡ id = ap (λ (s : Said). s.id) told in
-    let count_is : many ≡ count = ap (λ (s : Said). s.count) told in
-    let both = given_bad lines many 2 number events (ap (λ (s : Said). s.given) told) in
-    let w = both.0 in
-    let number_is = both.1 in
-    record {
-      head = line;
-      items = w.items;
-      behind = w.behind;
-      lines = are ∙ ap (λ l. line ∷ l) w.are;
-      is_head = form ∙ ap (λ n. Some (Head n many)) id_is ∙ ap (λ n. Some (Head id n)) count_is;
-      are_events = w.are_events;
-      within = let within = w.within in omega (arith, within, count_is);
-      is_bad = subst (λ n. IsBadNext (length events) n w.behind) count_is w.is_bad;
-      number_is = omega (arith, number_is);
-    }
-bad_lines (Some (Event octets)) id count events number line lines text are form says = absurd (cc says)
-bad_lines (Some End) id count events number line lines text are form says = absurd (cc says)
-bad_lines None id count events number line lines text are form says = absurd (cc says)
+pub whole_says : {I : Type 0} (word : List ℕ) (item_of : List ℕ → Option I) (text : List ℕ) (id count : ℕ) (items : List I) → IsWholeScript word item_of id count items text
+    → said_of word item_of text ≡ Some (said id count items None)
+unfolding head_at
+whole_says word item_of text id count items w =
+    let lines = w.between ++ w.last ∷ w.behind in
+    ap (said_of_lines word item_of) w.lines ∙ ap (λ o. said_by item_of o lines) (spelled_head word w.head (head_at id count) w.is_head)
+    ∙ ap (λ n. Some (told (head_at id count) (given item_of lines n 2))) (sym w.counted)
+    ∙ ap (λ g. Some (told (head_at id count) g)) (whole_given item_of w.between items w.last w.behind 2 w.are_items w.ended)
 
-pub says_bad : (text : List ℕ) (id count : ℕ) (events : List (List ℕ)) (number : ℕ) → said_of text ≡ Some (said id count events (Some number)) → HasBadLine id count events number text
-says_bad text id count events number says = by (lines_of text) refl says
+bad_text : {I : Type 0} (word : List ℕ) (item_of : List ℕ → Option I) (id count left : ℕ) (items : List I) (number : ℕ) (line : List ℕ) (lines : List (List ℕ)) (text : List ℕ)
+    → lines_of text ≡ line ∷ lines → SpellsHead word id count line → left ≡ count → IsBad item_of lines left items → number ≡ 2 + length items → HasBadLine word item_of id count items number text
+bad_text word item_of id count left items number line lines text are head all w number_is = record {
+  head = line;
+  between = w.between;
+  behind = w.behind;
+  lines = are ∙ ap (λ l. line ∷ l) w.are;
+  is_head = head;
+  are_items = w.are_items;
+  within = let within = w.within in omega (arith, within, all);
+  is_bad = subst (λ n. IsBadNext item_of (length items) n w.behind) all w.is_bad;
+  number_is = omega (arith, number_is);
+}
+
+bad_lines : {I : Type 0} (word : List ℕ) (item_of : List ℕ → Option I) (o : Option Head) (id count : ℕ) (items : List I) (number : ℕ) (line : List ℕ) (lines : List (List ℕ)) (text : List ℕ)
+    → lines_of text ≡ line ∷ lines → head_of word line ≡ o → said_by item_of o lines ≡ Some (said id count items (Some number)) → HasBadLine word item_of id count items number text
+bad_lines {I} word item_of (Some head) id count items number line lines text are has says =
+    let is : told head (given item_of lines head.count 2) ≡ said id count items (Some number) = cc in
+    let all : head.count ≡ count = ap (λ (s : Said I). s.count) is in
+    let both = given_bad item_of lines head.count 2 number items (ap (λ (s : Said I). s.given) is) in
+    bad_text word item_of id count head.count items number line lines text are (head_is word line head id count has (ap (λ (s : Said I). s.id) is) all) all both.0 both.1
+bad_lines word item_of None id count items number line lines text are has says = absurd (cc says)
+
+pub says_bad : {I : Type 0} (word : List ℕ) (item_of : List ℕ → Option I) (text : List ℕ) (id count : ℕ) (items : List I) (number : ℕ) → said_of word item_of text ≡ Some (said id count items (Some number))
+    → HasBadLine word item_of id count items number text
+says_bad word item_of text id count items number says = by (lines_of text) refl says
   where
-    by : (lines : List (List ℕ)) → lines_of text ≡ lines → said_of_lines lines ≡ Some (said id count events (Some number)) → HasBadLine id count events number text
+    by : (lines : List (List ℕ)) → lines_of text ≡ lines → said_of_lines word item_of lines ≡ Some (said id count items (Some number)) → HasBadLine word item_of id count items number text
     by [] are says = absurd (cc says)
-    by (line ∷ lines) are says = bad_lines (form_of_line line) id count events number line lines text are refl says
+    by (line ∷ lines) are says = bad_lines word item_of (head_of word line) id count items number line lines text are refl says
 
-pub bad_says : (text : List ℕ) (id count : ℕ) (events : List (List ℕ)) (number : ℕ) → HasBadLine id count events number text → said_of text ≡ Some (said id count events (Some number))
-bad_says text id count events number w =
-    ap said_of_lines w.lines ∙ ap (λ f. said_by f (w.items ++ w.behind)) w.is_head
-    ∙ ap (λ g. Some (record { id = id; count = count; given = g })) (bad_given w.items events w.behind count 2 w.are_events w.within w.is_bad)
-    ∙ ap (λ n. Some (said id count events (Some n))) (sym w.number_is)
+pub bad_says : {I : Type 0} (word : List ℕ) (item_of : List ℕ → Option I) (text : List ℕ) (id count : ℕ) (items : List I) (number : ℕ) → HasBadLine word item_of id count items number text
+    → said_of word item_of text ≡ Some (said id count items (Some number))
+unfolding head_at
+bad_says word item_of text id count items number w =
+    let lines = w.between ++ w.behind in
+    ap (said_of_lines word item_of) w.lines ∙ ap (λ o. said_by item_of o lines) (spelled_head word w.head (head_at id count) w.is_head)
+    ∙ ap (λ g. Some (told (head_at id count) g)) (bad_given item_of w.between items w.behind count 2 w.are_items w.within w.is_bad)
+    ∙ ap (λ n. Some (said id count items (Some n))) (sym w.number_is)
 
-none_by : (f : Option Form) (lines : List (List ℕ)) → said_by f lines ≡ None → (id count : ℕ) → f ≢ Some (Head id count)
-none_by (Some (Head name number)) lines says id count e = cc says
-none_by (Some (Event octets)) lines says id count e = cc e
-none_by (Some End) lines says id count e = cc e
-none_by None lines says id count e = cc e
+none_by : {I : Type 0} (item_of : List ℕ → Option I) (o : Option Head) (lines : List (List ℕ)) → said_by item_of o lines ≡ None → o ≡ None
+none_by item_of (Some head) lines says = absurd (cc says)
+none_by item_of None lines says = refl
 
-by_none : (f : Option Form) (lines : List (List ℕ)) → ((id count : ℕ) → f ≢ Some (Head id count)) → said_by f lines ≡ None
-by_none (Some (Head name number)) lines none = absurd (none name number refl)
-by_none (Some (Event octets)) lines none = refl
-by_none (Some End) lines none = refl
-by_none None lines none = refl
+pub says_nothing : {I : Type 0} (word : List ℕ) (item_of : List ℕ → Option I) (lines : List (List ℕ)) → said_of_lines word item_of lines ≡ None → HasNoHead word lines
+unfolding head_at
+says_nothing word item_of [] says = tt
+says_nothing word item_of (line ∷ lines) says = λ id count spells.
+    cc (sym (none_by item_of (head_of word line) lines says) ∙ spelled_head word line (head_at id count) spells)
 
-pub says_nothing : (lines : List (List ℕ)) → said_of_lines lines ≡ None → HasNoHead lines
-says_nothing [] says = tt
-says_nothing (line ∷ lines) says = none_by (form_of_line line) lines says
+no_head_by : {I : Type 0} (word : List ℕ) (item_of : List ℕ → Option I) (line : List ℕ) (o : Option Head) (lines : List (List ℕ)) → head_of word line ≡ o
+    → ((id count : ℕ) → SpellsHead word id count line → ⊥) → said_by item_of o lines ≡ None
+no_head_by word item_of line (Some head) lines has none = absurd (none head.id head.count (head_spelled word line head has))
+no_head_by word item_of line None lines has none = refl
 
-pub nothing_says : (lines : List (List ℕ)) → HasNoHead lines → said_of_lines lines ≡ None
-nothing_says [] none = refl
-nothing_says (line ∷ lines) none = by_none (form_of_line line) lines none
+pub nothing_says : {I : Type 0} (word : List ℕ) (item_of : List ℕ → Option I) (lines : List (List ℕ)) → HasNoHead word lines → said_of_lines word item_of lines ≡ None
+nothing_says word item_of [] none = refl
+nothing_says word item_of (line ∷ lines) none = no_head_by word item_of line (head_of word line) lines refl none

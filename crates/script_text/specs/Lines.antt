@@ -1,5 +1,5 @@
 -- The lines of a text.
-use Rattle.std.specs.Prelude.{◌≡◌, ◌≢◌, ◌⊎◌, ⊤, ℕ, Bool, false, ◌&&◌, nat_eq, if◌then◌else◌, List, [], ◌∷◌, ◌++◌}
+use Rattle.std.specs.Prelude.{◌≡◌, ◌≢◌, ◌⊎◌, ⊤, ℕ, zero, suc, ◌+◌, Bool, false, ◌&&◌, nat_eq, if◌then◌else◌, List, [], ◌∷◌, ◌++◌}
 
 abbrev pub begins_with : ℕ → List ℕ → Bool
 begins_with b [] = false
@@ -21,6 +21,21 @@ lines_of (b ∷ text) =
 -- the longest line in octets, without its end
 abbrev pub line_limit : ℕ
 line_limit = 1200
+
+-- the text behind its first line
+abbrev pub behind_line : List ℕ → List ℕ
+behind_line [] = []
+behind_line (b ∷ text) = if nat_eq b 10 then text else behind_line text
+
+-- the text behind its first n lines
+abbrev pub behind_lines : ℕ → List ℕ → List ℕ
+behind_lines zero text = text
+behind_lines (suc n) text = behind_lines n (behind_line text)
+
+-- how many of these octets are 0Ah
+abbrev pub ends : List ℕ → ℕ
+ends [] = 0
+ends (b ∷ text) = if nat_eq b 10 then 1 + ends text else ends text
 
 -- the octets without one such octet at their end
 abbrev pub without_last : ℕ → List ℕ → List ℕ

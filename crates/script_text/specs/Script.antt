@@ -1,130 +1,137 @@
--- What a script says: its head, the events that its lines give, and its first bad line.
-use Rattle.std.specs.Prelude.{◌≡◌, ◌≢◌, ⊤, ℕ, zero, suc, ◌+◌, ◌≤◌, nat_le, if◌then◌else◌, List, [], ◌∷◌, ◌++◌, length, map, Option, Some, None}
+-- What a script says: its head, the items that its lines give, and its first bad line. A line between the head and the end is
+-- the machine's: `item_of` says which item it gives, if any.
+use Rattle.std.specs.Prelude.{◌≡◌, ◌≢◌, ⊤, ℕ, zero, suc, ◌+◌, ◌≤◌, nat_le, true, bytes_eq, if◌then◌else◌, List, [], ◌∷◌, ◌++◌, length, map, Option, Some, None}
 use Rattle.script_text.specs.Lines.{lines_of, line_limit}
-use Rattle.script_text.specs.Forms.{form_of}
-use Rattle.script_text.specs.Reading.{HasLeft}
-use Rattle.script_text.specs.declared.form.Form.{Form}
-use Rattle.script_text.specs.declared.form.Form.TheVariants.{Head, Event, End}
+use Rattle.script_text.specs.Forms.{words_of, is_end, octets_exactly, count_of, number_of}
+use Rattle.script_text.specs.declared.head.Head.{Head}
 
--- a line has a form only where it isn't too long
-abbrev pub form_of_line : List ℕ → Option Form
-form_of_line line = if nat_le (length line) line_limit then form_of line else None
+abbrev pub head_with : Option (List ℕ) → Option ℕ → Option Head
+head_with (Some octets) (Some count) = Some (record { id = number_of octets; count = count })
+head_with (Some octets) None = None
+head_with None count = None
 
--- what lines give: the events before the first bad line, and its number where there is one
-pub record Given : Type 0 where
-  pub events : List (List ℕ)
+abbrev pub head_of_words : List ℕ → List (List ℕ) → Option Head
+head_of_words word [] = None
+head_of_words word (first ∷ []) = None
+head_of_words word (first ∷ id ∷ []) = None
+head_of_words word (first ∷ id ∷ count ∷ []) = if bytes_eq first word then head_with (octets_exactly 4 id) (count_of count) else None
+head_of_words word (first ∷ id ∷ count ∷ other ∷ more) = None
+
+-- the head that a line is, with this word: `<word> <id, 8 hexadecimal digits> <count>`; a line that is too long is none
+abbrev pub head_of : List ℕ → List ℕ → Option Head
+head_of word line = if nat_le (length line) line_limit then head_of_words word (words_of line) else None
+
+-- the item that a line gives: none where it is `end` or too long
+abbrev pub item_in : {I : Type 0} → (List ℕ → Option I) → List ℕ → Option I
+item_in item_of line = if is_end line then None else if nat_le (length line) line_limit then item_of line else None
+
+-- what lines give: the items before the first bad line, and its number where there is one
+pub record Given (I : Type 0) : Type 0 where
+  pub items : List I
   pub bad : Option ℕ
 
-abbrev pub bad_at : ℕ → Given
-bad_at number = record { events = []; bad = Some number }
+abbrev pub bad_at : {I : Type 0} → ℕ → Given I
+bad_at number = record { items = []; bad = Some number }
 
-abbrev pub give_event : List ℕ → Given → Given
-give_event octets given = record given { events = octets ∷ given.events }
+abbrev pub give_item : {I : Type 0} → I → Given I → Given I
+give_item item given = record { items = item ∷ given.items; bad = given.bad }
 
--- What one line gives, where so many items are still to come and this is its number: an item while some are, then the end.
-abbrev pub given_by : Option Form → ℕ → ℕ → (ℕ → Given) → Given
-given_by (Some (Event octets)) (suc left) number go_on = give_event octets (go_on left)
-given_by (Some (Event octets)) zero number go_on = bad_at number
-given_by (Some End) (suc left) number go_on = bad_at number
-given_by (Some End) zero number go_on = record { events = []; bad = None }
-given_by (Some (Head id count)) left number go_on = bad_at number
-given_by None left number go_on = bad_at number
+-- What a line gives where items are still to come, with what the lines behind it give.
+abbrev pub given_by : {I : Type 0} → Option I → ℕ → Given I → Given I
+given_by (Some item) number behind = give_item item behind
+given_by None number behind = bad_at number
 
--- What the lines behind the head give, where the first of them has this number. What follows the end isn't read, and where
--- no end comes the line after the last is bad.
-abbrev pub given : List (List ℕ) → ℕ → ℕ → Given
-given [] left number = bad_at number
-given (line ∷ lines) left number = given_by (form_of_line line) left number (λ fewer. given lines fewer (number + 1))
+-- What the lines behind the head give, where so many items are still to come and the first line has this number. What follows
+-- the end isn't read, and where no end comes the line after the last is bad.
+abbrev pub given : {I : Type 0} → (List ℕ → Option I) → List (List ℕ) → ℕ → ℕ → Given I
+given item_of [] left number = bad_at number
+given item_of (line ∷ lines) zero number = if is_end line then record { items = []; bad = None } else bad_at number
+given item_of (line ∷ lines) (suc left) number = given_by (item_in item_of line) number (given item_of lines left (number + 1))
 
 -- a script: its head, and what the lines behind it give
-pub record Said : Type 0 where
+pub record Said (I : Type 0) : Type 0 where
   pub id : ℕ
   pub count : ℕ
-  pub given : Given
+  pub given : Given I
 
--- a script with this head, these events and this bad line
-abbrev pub said : ℕ → ℕ → List (List ℕ) → Option ℕ → Said
-said id count events bad = record { id = id; count = count; given = record { events = events; bad = bad } }
+-- a script with this head, these items and this bad line
+abbrev pub said : {I : Type 0} → ℕ → ℕ → List I → Option ℕ → Said I
+said id count items bad = record { id = id; count = count; given = record { items = items; bad = bad } }
 
-abbrev pub said_by : Option Form → List (List ℕ) → Option Said
-said_by (Some (Head id count)) lines = Some (record { id = id; count = count; given = given lines count 2 })
-said_by (Some (Event octets)) lines = None
-said_by (Some End) lines = None
-said_by None lines = None
+abbrev pub said_by : {I : Type 0} → (List ℕ → Option I) → Option Head → List (List ℕ) → Option (Said I)
+said_by item_of (Some head) lines = Some (record { id = head.id; count = head.count; given = given item_of lines head.count 2 })
+said_by item_of None lines = None
 
-abbrev pub said_of_lines : List (List ℕ) → Option Said
-said_of_lines [] = None
-said_of_lines (line ∷ lines) = said_by (form_of_line line) lines
+abbrev pub said_of_lines : {I : Type 0} → List ℕ → (List ℕ → Option I) → List (List ℕ) → Option (Said I)
+said_of_lines word item_of [] = None
+said_of_lines word item_of (line ∷ lines) = said_by item_of (head_of word line) lines
 
--- what the text says, where its first line is a head
-abbrev pub said_of : List ℕ → Option Said
-said_of text = said_of_lines (lines_of text)
+-- what the text says, where its first line is a head with this word
+abbrev pub said_of : {I : Type 0} → List ℕ → (List ℕ → Option I) → List ℕ → Option (Said I)
+said_of word item_of text = said_of_lines word item_of (lines_of text)
 
 -- the number of the first bad line, counted from 1
-abbrev pub bad_line : Option Said → Option ℕ
+abbrev pub bad_line : {I : Type 0} → Option (Said I) → Option ℕ
 bad_line None = Some 1
 bad_line (Some said) = said.given.bad
 
--- these lines are these events, one by one
-abbrev pub AreEvents : List (List ℕ) → List (List ℕ) → Type 0
-AreEvents items events = map form_of_line items ≡ map (λ octets. Some (Event octets)) events
+-- how many lines such a script has: its head, its items and its end, or only a first line that is no head
+abbrev pub lines_in : {I : Type 0} → Option (Said I) → ℕ
+lines_in None = 1
+lines_in (Some said) = said.count + 2
 
--- A whole script: a head, as many events as it says, an end, and lines that aren't read.
-pub record IsWholeScript (id count : ℕ) (events : List (List ℕ)) (text : List ℕ) : Type 0 where
+-- no space is among these octets
+abbrev pub HasNoSpace : List ℕ → Type 0
+HasNoSpace [] = ⊤
+HasNoSpace (b ∷ word) = (b ≢ 32) × HasNoSpace word
+
+-- The same head as a spelling.
+pub record SpellsHead (word : List ℕ) (id count : ℕ) (line : List ℕ) : Type 0 where
+  pub ids : List ℕ
+  pub octets : List ℕ
+  pub digits : List ℕ
+  pub is : line ≡ word ++ 32 ∷ (ids ++ 32 ∷ digits)
+  pub one_word : HasNoSpace word
+  pub decodes : octets_exactly 4 ids ≡ Some octets
+  pub id_is : id ≡ number_of octets
+  pub counts : count_of digits ≡ Some count
+  pub fits : length line ≤ line_limit
+
+-- these lines are these items, one by one
+abbrev pub AreItems : {I : Type 0} → (List ℕ → Option I) → List (List ℕ) → List I → Type 0
+AreItems item_of lines items = map (item_in item_of) lines ≡ map (λ item. Some item) items
+
+-- A whole script: a head, as many items as it says, an end, and lines that aren't read.
+pub record IsWholeScript {I : Type 0} (word : List ℕ) (item_of : List ℕ → Option I) (id count : ℕ) (items : List I) (text : List ℕ) : Type 0 where
   pub head : List ℕ
-  pub items : List (List ℕ)
+  pub between : List (List ℕ)
   pub last : List ℕ
   pub behind : List (List ℕ)
-  pub lines : lines_of text ≡ head ∷ items ++ last ∷ behind
-  pub is_head : form_of_line head ≡ Some (Head id count)
-  pub are_events : AreEvents items events
-  pub counted : length events ≡ count
-  pub is_end : form_of_line last ≡ Some End
+  pub lines : lines_of text ≡ head ∷ between ++ last ∷ behind
+  pub is_head : SpellsHead word id count head
+  pub are_items : AreItems item_of between items
+  pub counted : length items ≡ count
+  pub ended : is_end last ≡ true
 
--- what comes after so many events of a count is no event that is still due, nor an end in its place
-abbrev pub IsBadNext : ℕ → ℕ → List (List ℕ) → Type 0
-IsBadNext taken count [] = ⊤
-IsBadNext taken count (line ∷ lines) =
-    ((octets : List ℕ) → form_of_line line ≡ Some (Event octets) → taken ≡ count) × (form_of_line line ≡ Some End → taken ≢ count)
+-- what comes after so many items of a count is no item that is still due, nor an end in its place
+abbrev pub IsBadNext : {I : Type 0} → (List ℕ → Option I) → ℕ → ℕ → List (List ℕ) → Type 0
+IsBadNext item_of taken count [] = ⊤
+IsBadNext {I} item_of taken count (line ∷ lines) =
+    ((item : I) → item_in item_of line ≡ Some item → taken ≡ count) × (is_end line ≡ true → taken ≢ count)
 
--- A script with a bad line behind its head and these events.
-pub record HasBadLine (id count : ℕ) (events : List (List ℕ)) (number : ℕ) (text : List ℕ) : Type 0 where
+-- A script with a bad line behind its head and these items.
+pub record HasBadLine {I : Type 0} (word : List ℕ) (item_of : List ℕ → Option I) (id count : ℕ) (items : List I) (number : ℕ) (text : List ℕ) : Type 0 where
   pub head : List ℕ
-  pub items : List (List ℕ)
+  pub between : List (List ℕ)
   pub behind : List (List ℕ)
-  pub lines : lines_of text ≡ head ∷ items ++ behind
-  pub is_head : form_of_line head ≡ Some (Head id count)
-  pub are_events : AreEvents items events
-  pub within : length events ≤ count
-  pub is_bad : IsBadNext (length events) count behind
-  pub number_is : number ≡ length events + 2
+  pub lines : lines_of text ≡ head ∷ between ++ behind
+  pub is_head : SpellsHead word id count head
+  pub are_items : AreItems item_of between items
+  pub within : length items ≤ count
+  pub is_bad : IsBadNext item_of (length items) count behind
+  pub number_is : number ≡ length items + 2
 
--- the first line is no head
-abbrev pub HasNoHead : List (List ℕ) → Type 0
-HasNoHead [] = ⊤
-HasNoHead (line ∷ lines) = (id count : ℕ) → form_of_line line ≢ Some (Head id count)
-
--- no line comes, or one that has no form
-abbrev pub HasNoForm : List (List ℕ) → Type 0
-HasNoForm [] = ⊤
-HasNoForm (line ∷ lines) = form_of_line line ≡ None
-
--- the next line has this form
-pub record HasForm (text held : List ℕ) (source : Option (List ℕ)) (form : Form) : Type 0 where
-  pub line : List ℕ
-  pub rest : List ℕ
-  pub left : HasLeft held source rest
-  pub lines : lines_of text ≡ line ∷ lines_of rest
-  pub has : form_of_line line ≡ Some form
-
--- the form of the next line, with what is left behind it; None where it has none, and where no line comes
-abbrev pub GivesForm : List ℕ → List ℕ → Option (List ℕ) → Option Form → Type 0
-GivesForm text held source (Some form) = HasForm text held source form
-GivesForm text held source None = HasNoForm (lines_of text)
-
--- a script that it heads has at most 1,000,000 items
-abbrev pub HasCount : Option Form → Type 0
-HasCount (Some (Head id count)) = count ≤ 1000000
-HasCount (Some (Event octets)) = ⊤
-HasCount (Some End) = ⊤
-HasCount None = ⊤
+-- the first line is no head with this word
+abbrev pub HasNoHead : List ℕ → List (List ℕ) → Type 0
+HasNoHead word [] = ⊤
+HasNoHead word (line ∷ lines) = (id count : ℕ) → SpellsHead word id count line → ⊥

@@ -1,19 +1,26 @@
-//! The lines of a text, a reader of them over a `Source`, the forms of a script's lines, and the settings text.
+//! The lines of a text, a reader of them over a `Source`, a script's head and end, the words that lines share, and the settings text.
 #![tactic(auto)]
 
-mod form;
+mod addresses;
+mod ends;
+mod head;
 mod laws;
-mod parse;
+mod numbers;
+mod octets;
 mod reader;
 mod settings;
 mod whole;
+mod words;
 
-pub use form::Form;
-pub use laws::{form_spelled, lines_spelled, script_spelled, settings_spelled};
-pub use parse::read_form;
+pub use addresses::address;
+pub use head::{Head, read_head};
+pub use laws::{head_spelled, lines_spelled, script_spelled, settings_spelled};
+pub use numbers::count;
+pub use octets::{octets_exactly, octets_up_to};
 pub use reader::{Found, LineBuffer, Reader};
 pub use settings::{SettingsOctets, read_settings, settings_of};
 pub use whole::{TextFault, read_text};
+pub use words::{first_word, is_end};
 
 #[cfg(test)]
 mod tests;

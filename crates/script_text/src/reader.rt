@@ -1,17 +1,13 @@
 // A reader of lines over a source.
-ghost use Rattle.std.specs.Prelude.{◌≡◌, ◌≤◌, ◌<◌, ℕ, List, [], Option, IfOk, OnOk, length};
+ghost use Rattle.std.specs.Prelude.{◌≡◌, ◌≢◌, ◌≤◌, ◌<◌, ℕ, List, [], Option, Some, IfOk, OnOk, OnErr, length};
 ghost use Rattle.board_core.specs.Causes.{HasCause};
 ghost use Rattle.script_text.specs.Lines.{line_limit, without_last};
-ghost use Rattle.script_text.specs.Reading.{HasLeft, GivesOctet, Finds};
-ghost use Rattle.script_text.specs.Script.{GivesForm, HasCount};
+ghost use Rattle.script_text.specs.Reading.{HasLeft, GivesOctet, Finds, FailsWithin};
 
-use crate::form::Form;
-use crate::parse::read_form;
+use crate::ends::without_last;
+use crate::head::LINE_LIMIT;
 use board_core::{Bytes, Source, SourceFailed};
 use std::marker::Model;
-
-/// The longest line in octets, without its end.
-const LINE_LIMIT: usize = 1200;
 
 /// Room for the longest line and for the 0Dh of its end.
 pub type LineBuffer = Bytes<1201>;
@@ -61,6 +57,8 @@ impl Reader {
     fn fill<S: Source>(&mut self, source: &mut S) -> Result<(), SourceFailed>
         ensures filled { (text : List ℕ) → HasLeft self.old (S.left source.old) text → HasLeft self.new (S.left source.new) text }
         ensures over { (text : List ℕ) → HasLeft self.old (S.left source.old) text → OnOk result (self.new ≡ [] → text ≡ []) }
+        ensures failed { (text : List ℕ) → HasLeft self.old (S.left source.old) text → OnErr result (S.left source.new ≡ Some text) }
+        ensures held { length self.new ≤ 256 }
         ensures cause { HasCause (S.faults source.old) (S.faults source.new) result }
     {
         if self.at < self.end {
@@ -68,17 +66,15 @@ impl Reader {
         }
         self.at = 0;
         self.end = 0;
-        let count = source.read(&mut self.chunk)?;
-        // A source that tells nothing may answer any count: an impossible one counts as the end.
-        if count <= 256 {
-            self.end = count;
-        }
+        self.end = source.read(&mut self.chunk)?;
         Ok(())
     }
 
     // The next octet, or None at the end of the text.
     fn next<S: Source>(&mut self, source: &mut S) -> Result<Option<u8>, SourceFailed>
         ensures octet { (text : List ℕ) → HasLeft self.old (S.left source.old) text → IfOk result (GivesOctet text self.new (S.left source.new)) }
+        ensures failed { (text : List ℕ) → HasLeft self.old (S.left source.old) text → OnErr result (S.left source.new ≡ Some text) }
+        ensures held { length self.new ≤ 256 }
         ensures cause { HasCause (S.faults source.old) (S.faults source.new) result }
     {
         self.fill(source)?;
@@ -90,26 +86,24 @@ impl Reader {
         Ok(Some(octet))
     }
 
-    /// Reads the next line, without its end, into `line`. Takes no memory.
+    /// Reads the next line, without its end, into `line`. Takes no memory. Of what the source gave, the reader holds at most 256
+    /// octets behind that line.
     ///
-    /// At `TooLong` and at an error what `line` holds is left open, and so is what is left of the text.
+    /// At `TooLong` what `line` holds and what is left of the text are left open. At an error no whole line was read since.
     pub fn line<S: Source>(
         &mut self,
         source: &mut S,
         line: &mut LineBuffer,
     ) -> Result<Found, SourceFailed>
         ensures found { (text : List ℕ) → HasLeft self.old (S.left source.old) text → IfOk result (Finds text self.new (S.left source.new) line.new) }
+        ensures failed { (text : List ℕ) → HasLeft self.old (S.left source.old) text → OnErr result (FailsWithin text (S.left source.new)) }
+        ensures held { length self.new ≤ 256 }
         ensures cause { HasCause (S.faults source.old) (S.faults source.new) result }
     {
         line.clear();
         'octets: loop {
             match self.next(source)? {
-                None => {
-                    if line.as_slice().len() == 0 {
-                        return Ok(Found::End);
-                    }
-                    return Ok(fits(line));
-                }
+                None => return Ok(last(line)),
                 Some(b'\n') => {
                     drop_return(line);
                     return Ok(fits(line));
@@ -120,22 +114,6 @@ impl Reader {
                     }
                 }
             }
-        }
-    }
-
-    /// Reads the next line and answers its form: None where it has none, and where no line comes. Takes no memory.
-    ///
-    /// At None and at an error what is left of the text is left open.
-    pub fn form<S: Source>(&mut self, source: &mut S) -> Result<Option<Form>, SourceFailed>
-        ensures form { (text : List ℕ) → HasLeft self.old (S.left source.old) text → IfOk result (GivesForm text self.new (S.left source.new)) }
-        ensures count { IfOk result HasCount }
-        ensures cause { HasCause (S.faults source.old) (S.faults source.new) result }
-    {
-        let mut line = LineBuffer::new();
-        match self.line(source, &mut line)? {
-            Found::Line => Ok(read_form(line.as_slice())),
-            Found::TooLong => Ok(None),
-            Found::End => Ok(None),
         }
     }
 }
@@ -153,17 +131,22 @@ fn fits(line: &LineBuffer) -> Found
     }
 }
 
+// What comes at the end of the text: a last line that has no end of its own, or nothing.
+fn last(line: &LineBuffer) -> Found
+    ensures line { result ≡ Found.Line → (line.now ≢ []) × (length line.now ≤ line_limit) }
+    ensures long { result ≡ Found.TooLong → line_limit < length line.now }
+    ensures none { result ≡ Found.End → line.now ≡ [] }
+{
+    if line.as_slice().len() == 0 {
+        return Found::End;
+    }
+    fits(line)
+}
+
 // Lets a 0Dh at the end go.
 fn drop_return(line: &mut LineBuffer)
     ensures { line.new ≡ without_last 13 line.old }
 {
-    let octets = line.as_slice();
-    let count = octets.len();
-    if count == 0 {
-        return;
-    }
-    if octets[count - 1] != b'\r' {
-        return;
-    }
-    line.truncate(count - 1);
+    let count = without_last(line.as_slice(), b'\r').len();
+    line.truncate(count);
 }

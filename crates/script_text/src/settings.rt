@@ -1,9 +1,9 @@
 // The settings text: one line that names the filter.
 ghost use Rattle.std.specs.Prelude.{◌≡◌, ◌≢◌, ◌↔◌, ◌≤◌, ℕ, List, Option, Some, MatchOption, Err, IfOk};
 ghost use Rattle.board_core.specs.Causes.{Rose};
-ghost use Rattle.script_text.specs.Lines.{without_last};
 ghost use Rattle.script_text.specs.Settings.{settings_of, settings_line, settings_octets, SpellsSettings};
 
+use crate::ends::without_last;
 use crate::whole::{TextFault, read_text};
 use board_core::Source;
 use hex::decode_to_slice;
@@ -24,7 +24,7 @@ const DEFAULTS: [u8; 35] = [
 pub fn settings_of(text: &[u8]) -> Option<SettingsOctets>
     ensures { result ≡ settings_of text.now }
 {
-    let digits = quoted(line_of(text))?;
+    let digits = quoted(without_last(text, b'\n'))?;
     let mut filter = [0u8; 20];
     match decode_to_slice(digits, &mut filter) {
         Ok(()) => Some(octets_of(&filter)),
@@ -43,21 +43,12 @@ pub fn read_settings<S: Source>(
     ensures settings { (text : List ℕ) → S.left source.old ≡ Some text → IfOk result (λ settings. settings ≡ settings_of text) }
     ensures later { S.faults source.old ≤ S.faults source.new }
     ensures failed { result ≡ Err TextFault.Source → Rose (S.faults source.old) (S.faults source.new) }
+    ensures same { (result ≡ Err TextFault.Source → ⊥) → S.faults source.new ≡ S.faults source.old }
 {
     match read_text(alloc, source) {
         Ok(Some(text)) => Ok(settings_of(text.as_slice())),
         Ok(None) => Ok(None),
         Err(fault) => Err(fault),
-    }
-}
-
-// The text without one 0Ah at its end.
-fn line_of(text: &[u8]) -> &[u8]
-    ensures { result.now ≡ without_last 10 text.now }
-{
-    match text.strip_suffix(b"\n".as_slice()) {
-        Some(line) => line,
-        None => text,
     }
 }
 

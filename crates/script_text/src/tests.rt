@@ -1,7 +1,7 @@
 ghost use Rattle.board_core.specs.Causes.{IsCount};
 
 use super::*;
-use board_core::{Source, SourceFailed};
+use board_core::{Address, Source, SourceFailed};
 
 // A text that comes a few octets at a time. The read with the number `fails` fails.
 #[derive(Drop)]
@@ -47,9 +47,16 @@ fn in_pieces(text: &[u8], each: usize) -> Pieces<'_> {
     }
 }
 
-const EVENT: Form = Form::Event {
-    octets: [1, 0, 2, 0, 202, 154, 59, 32, 0, 4, 4, 48, 1, 82, 16, 32],
-};
+// The item of the scripts of these tests: `event <16 octets>`.
+fn event(line: &[u8]) -> Option<[u8; 16]> {
+    let (word, digits) = first_word(line);
+    if word != b"event".as_slice() {
+        return None;
+    }
+    octets_exactly::<16>(digits?)
+}
+
+const EVENT: [u8; 16] = [1, 0, 2, 0, 202, 154, 59, 32, 0, 4, 4, 48, 1, 82, 16, 32];
 
 // The defaults of the PEF settings, and then the filter.
 const SETTINGS: SettingsOctets = [
@@ -63,23 +70,18 @@ const SETTINGS: SettingsOctets = [
 ];
 
 #[test]
-fn a_line_has_its_form(rt: HostRuntime) {
+fn a_head_has_its_word_an_id_and_a_count(rt: HostRuntime) {
     let rows = [
-        ("script 00000001 1", Some(Form::Head { id: 1, count: 1 })),
-        ("script 0000000A 01", Some(Form::Head { id: 10, count: 1 })),
+        ("script 00000001 1", Some(Head { id: 1, count: 1 })),
+        ("script 0000000A 01", Some(Head { id: 10, count: 1 })),
         (
             "script fedcBA98 1000000",
-            Some(Form::Head {
+            Some(Head {
                 id: 0xfedc_ba98,
                 count: 1_000_000,
             }),
         ),
-        (
-            "script 00000000 0000000",
-            Some(Form::Head { id: 0, count: 0 }),
-        ),
-        ("event 01000200CA9a3b200004043001521020", Some(EVENT)),
-        ("end", Some(Form::End)),
+        ("script 00000000 0000000", Some(Head { id: 0, count: 0 })),
         ("script 00000001 1000001", None),
         ("script 00000001 00000001", None),
         ("script 00000001 +1", None),
@@ -88,19 +90,110 @@ fn a_line_has_its_form(rt: HostRuntime) {
         ("script 0000001 1", None),
         ("script 00000001 1 1", None),
         ("script  00000001 1", None),
-        ("event 01000200CA9a3b2000040430015210", None),
-        ("event 01000200CA9a3b20000404300152102000", None),
-        ("event 01000200CA9a3b20000404300152102g", None),
-        ("event  01000200CA9a3b200004043001521020", None),
-        ("event -", None),
-        ("end ", None),
-        (" end", None),
-        ("END", None),
-        ("tick", None),
+        ("capture 00000001 1", None),
+        ("scripts 00000001 1", None),
         ("", None),
     ];
-    for (line, form) in rows {
-        assert_eq!(rt; read_form(line.as_bytes()), form, "{line}");
+    for (line, head) in rows {
+        assert_eq!(rt; read_head(b"script", line.as_bytes()), head, "{line}");
+    }
+    assert_eq!(rt;
+        read_head(b"capture", b"capture 00000001 1"),
+        Some(Head { id: 1, count: 1 })
+    );
+    // 1,200 octets are the longest line.
+    for (count, head) in [(1189, Some(Head { id: 1, count: 1 })), (1190, None)] {
+        let word = vec![in rt.alloc(); b'x'; count].expect(&rt, "memory");
+        let mut line = word.clone().expect(&rt, "memory");
+        line.extend_from_slice(b" 00000001 1").expect(&rt, "memory");
+        assert_eq!(rt;
+            read_head(word.as_slice(), line.as_slice()),
+            head,
+            "{count} octets"
+        );
+    }
+}
+
+#[test]
+fn an_item_or_the_end_is_a_line(rt: HostRuntime) {
+    let rows = [
+        ("event 01000200CA9a3b200004043001521020", Some(EVENT), false),
+        ("end", None, true),
+        ("event 01000200CA9a3b2000040430015210", None, false),
+        ("event 01000200CA9a3b20000404300152102000", None, false),
+        ("event 01000200CA9a3b20000404300152102g", None, false),
+        ("event  01000200CA9a3b200004043001521020", None, false),
+        ("event -", None, false),
+        ("event", None, false),
+        ("end ", None, false),
+        (" end", None, false),
+        ("END", None, false),
+        ("tick", None, false),
+        ("", None, false),
+    ];
+    for (line, item, ends) in rows {
+        assert_eq!(rt; event(line.as_bytes()), item, "{line}");
+        assert_eq!(rt; is_end(line.as_bytes()), ends, "{line}");
+    }
+}
+
+#[test]
+fn a_word_says_octets_an_address_or_a_count(rt: HostRuntime) {
+    let octets: [(&str, Option<&[u8]>); 9] = [
+        ("-", Some(&[])),
+        ("0a", Some(&[10])),
+        ("00fFA5", Some(&[0, 255, 165])),
+        ("00fFA500", None),
+        ("", None),
+        ("0", None),
+        ("0a1", None),
+        ("0g", None),
+        ("--", None),
+    ];
+    for (word, want) in octets {
+        match (octets_up_to::<3>(word.as_bytes()), want) {
+            (Some(octets), Some(want)) => assert_eq!(rt; octets.as_slice(), want, "{word}"),
+            (None, None) => {}
+            (_, _) => assert!(rt; false, "{word}"),
+        }
+    }
+    let addresses = [
+        ("192.168.0.7:162", Some(([192, 168, 0, 7], 162))),
+        ("010.000.00.255:00162", Some(([10, 0, 0, 255], 162))),
+        ("0.0.0.0:0", Some(([0, 0, 0, 0], 0))),
+        (
+            "255.255.255.255:65535",
+            Some(([255, 255, 255, 255], 65_535)),
+        ),
+        ("256.0.0.1:162", None),
+        ("1.0.0.256:162", None),
+        ("0001.0.0.1:162", None),
+        ("1.2.3:162", None),
+        ("1.2.3.4.5:162", None),
+        ("1.2.3.4", None),
+        ("1.2.3.4:", None),
+        ("1.2.3.4:65536", None),
+        ("1.2.3.4:000162", None),
+        ("1.2.3.4:1:2", None),
+        ("1..3.4:162", None),
+        ("a.2.3.4:162", None),
+        ("1.2.3.4:-1", None),
+        ("", None),
+    ];
+    for (word, want) in addresses {
+        let want = want.map(|(ip, port)| Address { ip, port });
+        assert_eq!(rt; address(word.as_bytes()), want, "{word}");
+    }
+    for (word, want) in [
+        ("0", Some(0)),
+        ("0000001", Some(1)),
+        ("1000000", Some(1_000_000)),
+        ("1000001", None),
+        ("00000001", None),
+        ("1a", None),
+        ("", None),
+    ] {
+        assert_eq!(rt; count(word.as_bytes()), want, "{word}");
     }
 }
 
@@ -152,29 +245,31 @@ fn a_line_of_1200_octets_is_the_longest(rt: HostRuntime) {
 }
 
 #[test]
-fn a_script_is_read_form_by_form(rt: HostRuntime) {
+fn a_script_is_read_line_by_line(rt: HostRuntime) {
     let text = b"script 00000001 1\r\nevent 01000200CA9a3b200004043001521020\nend\nmore";
     let mut source = in_pieces(text, 7);
     let mut reader = Reader::new();
-    for form in [
-        Some(Form::Head { id: 1, count: 1 }),
-        Some(EVENT),
-        Some(Form::End),
-        None,
-        None,
-    ] {
-        assert_eq!(rt; reader.form(&mut source), Ok(form));
-    }
+    let mut line = LineBuffer::new();
+    assert_eq!(rt; reader.line(&mut source, &mut line), Ok(Found::Line));
+    assert_eq!(rt;
+        read_head(b"script", line.as_slice()),
+        Some(Head { id: 1, count: 1 })
+    );
+    assert_eq!(rt; reader.line(&mut source, &mut line), Ok(Found::Line));
+    assert_eq!(rt; event(line.as_slice()), Some(EVENT));
+    assert_eq!(rt; reader.line(&mut source, &mut line), Ok(Found::Line));
+    assert!(rt; is_end(line.as_slice()));
+    assert_eq!(rt; reader.line(&mut source, &mut line), Ok(Found::Line));
+    assert_eq!(rt; line.as_slice(), b"more".as_slice());
+    assert_eq!(rt; reader.line(&mut source, &mut line), Ok(Found::End));
+    assert_eq!(rt; reader.line(&mut source, &mut line), Ok(Found::End));
 
-    // The third read fails in the middle of the event's line, and the next one goes on.
+    // The third read fails in the middle of the event's line.
     let mut source = in_pieces(text, 10);
     source.fails = 2;
     let mut reader = Reader::new();
-    assert_eq!(rt;
-        reader.form(&mut source),
-        Ok(Some(Form::Head { id: 1, count: 1 }))
-    );
-    assert_eq!(rt; reader.form(&mut source), Err(SourceFailed));
+    assert_eq!(rt; reader.line(&mut source, &mut line), Ok(Found::Line));
+    assert_eq!(rt; reader.line(&mut source, &mut line), Err(SourceFailed));
     assert_eq!(rt; source.faults, 1);
 }
 

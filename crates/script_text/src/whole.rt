@@ -25,6 +25,7 @@ pub fn read_text<S: Source>(alloc: Global, source: &mut S) -> Result<Option<Vec<
     ensures whole { (text : List ℕ) → S.left source.old ≡ Some text → IfOk result (IsWhole text) }
     ensures later { S.faults source.old ≤ S.faults source.new }
     ensures failed { result ≡ Err TextFault.Source → Rose (S.faults source.old) (S.faults source.new) }
+    ensures same { (result ≡ Err TextFault.Source → ⊥) → S.faults source.new ≡ S.faults source.old }
 {
     let mut text = Vec::new(alloc);
     let mut chunk = [0u8; 256];
@@ -33,8 +34,7 @@ pub fn read_text<S: Source>(alloc: Global, source: &mut S) -> Result<Option<Vec<
             Ok(count) => count,
             Err(_) => return Err(TextFault::Source),
         };
-        // A source that tells nothing may answer any count: an impossible one counts as the end.
-        if count == 0 || count > 256 {
+        if count == 0 {
             return Ok(Some(text));
         }
         if count > TEXT_LIMIT - text.len() {

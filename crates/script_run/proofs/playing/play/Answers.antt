@@ -1,75 +1,78 @@
-use Rattle.std.proofs.Common.{◌≡◌, ℕ, Some, None, Err, Result, sym, ◌∙◌, ap, subst}
+use Rattle.std.proofs.Common.{Ok, Err, sym, ap, subst}
 use Rattle.std.proofs.lemmas.Result.{err_from_is_err_and}
-use Rattle.script_text.specs.Lines.{lines_of}
-use Rattle.script_text.specs.Script.{given, Said}
-use Rattle.script_run.specs.declared.stop.Stop.{Stop}
-use Rattle.script_run.specs.Report.{says}
-use Rattle.script_run.specs.Run.{IsTaken}
-use Rattle.script_run.specs.Course.{IsCourse, GivesCourse}
-use Rattle.script_run.proofs.PlayLemmas.{head_not, plays_head, plays_refused, plays_on, reader_left}
+use Rattle.pef_engine.specs.Scripts.{script_of}
+use Rattle.script_run.specs.Course.{IsCourse}
+use Rattle.script_run.proofs.GoingLemmas.{goes_nothing}
+use Rattle.script_run.proofs.PlayLemmas.{plays_first, plays_another, plays_on, starts, reader_left, is_head, is_course}
 use Rattle.script_run.proofs.playing.play.Goals as goal
 
 pub returns-in_err-head-clause-plays : goal.returns-in_err-head-clause-plays
-returns-in_err-head-clause-plays g c = λ tells Z H text holds left.
-    let rules' = g.M.Machine.rules in
-    let view' = g.M.Machine.view in
-    let scripts' = g.M.Scripted.scripts in
-    let says' = says rules' scripts' in
-    let view = g.B.Board.view in
-    let written = g.K.Sink.written in
-    let unread = reader_left c.new-reader.result (g.S.Source.left c.args.source.now) text c.new-reader.ensures left in
+returns-in_err-head-clause-plays g c =
+    let o = c.in_err-head.ensures in
     let q = err_from_is_err_and c.from_residual.result c.from_residual.ensures.1 in
-    rw (q.1, q.2) (plays_head rules' view' says' scripts' Z H text (view c.args.board.now) (g.met.B.Board.sound c.args.board.now) tells c.args.engine.now (written c.args.out.now) holds c.read_head.new.reader (g.S.Source.left c.read_head.new.source) c.in_err-head.field-0.0 (c.in_err-head.ensures.head text unread))
+    rw (q.1, q.2) (
+      c.first_line.new.reader,
+      starts (g.S.Source.left c.args.source.now) (g.S.Source.faults c.args.source.now) c.new-reader.ensures
+          (plays_first _ _ c.in_err-head.field-0.0 o.head o.reads (λ step e. o.no_step step (ap Err e)) (goes_nothing _ (g.met.B.Board.sound c.args.board.now) c.requires.live c.requires.place)),
+    )
 
 pub returns-in_err-course-clause-plays : goal.returns-in_err-course-clause-plays
-returns-in_err-course-clause-plays g c = λ tells Z H text holds left.
-    let rules' = g.M.Machine.rules in
-    let view' = g.M.Machine.view in
-    let scripts' = g.M.Scripted.scripts in
-    let says' = says rules' scripts' in
-    let view = g.B.Board.view in
-    let written = g.K.Sink.written in
-    let unread = reader_left c.new-reader.result (g.S.Source.left c.args.source.now) text c.new-reader.ensures left in
-    let script : c.opened-script.result ≡ scripts'.script_of H = c.opened-script.ensures Z H holds.lawful (subst (λ m. (view' m).shows Z H) (sym c.machine.ensures) holds.shows) in
-    let head = c.in_ok-head.ensures.head text unread in
-    let said : Said = record { id = c.in_ok-head.head.id; count = c.in_ok-head.head.count; given = given (lines_of head.rest) c.in_ok-head.head.count 2 } in
+returns-in_err-course-clause-plays g c =
+    let o = c.in_ok-head.ensures in
     let q = err_from_is_err_and c.from_residual-in_err-course.result c.from_residual-in_err-course.ensures.1 in
-    rw (q.1, q.2) (plays_refused rules' view' says' scripts' Z H text (view c.args.board.now) (g.met.B.Board.sound c.args.board.now) tells c.args.engine.now (written c.args.out.now) holds said head.said c.in_err-course.field-0.0 (subst (λ s. GivesCourse s c.in_ok-head.head.id c.in_ok-head.head.count (Err c.in_err-course.field-0.0)) script c.in_err-course.ensures))
-
-pub returns-clause-plays : goal.returns-clause-plays
-returns-clause-plays g c = λ tells Z H text holds left.
-    let back = c.follow.ensures.tells tells in
-    let rules' = g.M.Machine.rules in
-    let view' = g.M.Machine.view in
-    let scripts' = g.M.Scripted.scripts in
-    let says' = says rules' scripts' in
-    let view = g.B.Board.view in
-    let written = g.K.Sink.written in
-    let unread = reader_left c.new-reader.result (g.S.Source.left c.args.source.now) text c.new-reader.ensures left in
-    let script : c.opened-script.result ≡ scripts'.script_of H = c.opened-script.ensures Z H holds.lawful (subst (λ m. (view' m).shows Z H) (sym c.machine.ensures) holds.shows) in
-    let head = c.in_ok-head.ensures.head text unread in
-    let said : Said = record { id = c.in_ok-head.head.id; count = c.in_ok-head.head.count; given = given (lines_of head.rest) c.in_ok-head.head.count 2 } in
-    plays_on rules' view' says' scripts' Z H text (view c.args.board.now) (g.met.B.Board.sound c.args.board.now) back c.args.engine.now (written c.args.out.now) holds said head.said c.in_ok-course.course (subst (λ s. IsCourse s c.in_ok-head.head.id c.in_ok-head.head.count c.in_ok-course.course) script c.in_ok-course.ensures)
-    (view c.follow.new.board) c.follow.new.engine (written c.follow.new.out) c.follow.result (c.follow.ensures.runs tells Z H head.rest holds head.left) (λ id count e. c.follow.ensures.other.0 id count e)
+    rw (q.1, q.2) (
+      c.first_line.new.reader,
+      starts (g.S.Source.left c.args.source.now) (g.S.Source.faults c.args.source.now) c.new-reader.ensures
+          (plays_another _ _ c.in_ok-head.head o.head o.reads c.script-script.result (λ Z H lawful shows. c.script-script.ensures Z H lawful (subst (λ m. (g.M.Machine.view m).shows Z H) (sym c.machine.ensures) shows)) c.in_err-course.field-0.0 c.in_err-course.ensures
+          (goes_nothing _ (g.met.B.Board.sound c.args.board.now) c.requires.live c.requires.place)),
+    )
 
 pub follow-requires-clause-course : goal.follow-requires-clause-course
 follow-requires-clause-course g c =
-    let rules' = g.M.Machine.rules in
-    let view' = g.M.Machine.view in
-    let s = c.requires.shows in
-    let script : c.opened-script.result ≡ g.M.Scripted.scripts.script_of s.history = c.opened-script.ensures s.settings s.history s.lawful (subst (λ m. (view' m).shows s.settings s.history) (sym c.machine.ensures) s.shows) in
-    record { settings = s.settings; history = s.history; lawful = s.lawful; shows = s.shows; stands = subst (λ s. IsCourse s c.in_ok-head.head.id c.in_ok-head.head.count c.in_ok-course.course) script c.in_ok-course.ensures }
+    let s = c.requires.shows in record {
+      settings = s.settings;
+      history = s.history;
+      lawful = s.lawful;
+      shows = s.shows;
+      stands = subst (λ x. IsCourse x c.in_ok-head.head.id c.in_ok-head.head.count c.in_ok-course.course) (c.script-script.ensures s.settings s.history s.lawful (subst (λ m. (g.M.Machine.view m).shows s.settings s.history) (sym c.machine.ensures) s.shows)) c.in_ok-course.ensures;
+    }
 
-pub returns-in_err-head-clause-idle : goal.returns-in_err-head-clause-idle
-returns-in_err-head-clause-idle g c = λ text left said taken.
-    let unread = reader_left c.new-reader.result (g.S.Source.left c.args.source.now) text c.new-reader.ensures left in
-    let q = err_from_is_err_and c.from_residual.result c.from_residual.ensures.1 in
-    let taken' = subst (λ (r : Result ℕ Stop). IsTaken r) (q.1 ∙ ap Err q.2) taken in
-    absurd (head_not text c.read_head.new.reader (g.S.Source.left c.read_head.new.source) c.in_err-head.field-0.0 (c.in_err-head.ensures.head text unread) said taken')
+pub returns-in_err-items-clause-plays : goal.returns-in_err-items-clause-plays
+returns-in_err-items-clause-plays g c =
+    let o = c.in_ok-head.ensures in
+    let q = err_from_is_err_and c.from_residual-in_err-items.result c.from_residual-in_err-items.ensures.1 in
+    rw (q.1, q.2) (
+      c.follow.new.reader,
+      starts (g.S.Source.left c.args.source.now) (g.S.Source.faults c.args.source.now) c.new-reader.ensures
+          (plays_on _ _ c.in_ok-head.head o.head o.reads c.script-script.result (λ Z H lawful shows. c.script-script.ensures Z H lawful (subst (λ m. (g.M.Machine.view m).shows Z H) (sym c.machine.ensures) shows)) _ c.in_ok-course.course (Err c.in_err-items.field-0.0)
+          c.in_ok-course.ensures c.in_err-items.ensures.ran),
+    )
+
+pub returns-clause-plays : goal.returns-clause-plays
+returns-clause-plays g c =
+    let o = c.in_ok-head.ensures in (
+      c.follow.new.reader,
+      starts (g.S.Source.left c.args.source.now) (g.S.Source.faults c.args.source.now) c.new-reader.ensures
+          (plays_on _ _ c.in_ok-head.head o.head o.reads c.script-script.result (λ Z H lawful shows. c.script-script.ensures Z H lawful (subst (λ m. (g.M.Machine.view m).shows Z H) (sym c.machine.ensures) shows)) _ c.in_ok-course.course (Ok c.in_ok-items.items)
+          c.in_ok-course.ensures c.in_ok-items.ensures.ran),
+    )
+
+pub returns-in_err-items-clause-refused : goal.returns-in_err-items-clause-refused
+returns-in_err-items-clause-refused g c = λ Z H text lawful shows left other.
+    let head = c.in_ok-head.ensures.head text (reader_left c.new-reader.result (g.S.Source.left c.args.source.now) text c.new-reader.ensures left) in
+    let its = c.script-script.ensures Z H lawful (subst (λ m. (g.M.Machine.view m).shows Z H) (sym c.machine.ensures) shows) in
+    absurd (is_course g.M.Scripted.scripts text (script_of g.M.Scripted.scripts H) c.in_ok-head.head _ c.in_ok-course.course head.1 (subst (λ x. IsCourse x c.in_ok-head.head.id c.in_ok-head.head.count c.in_ok-course.course) its c.in_ok-course.ensures) other)
+
+pub returns-clause-refused : goal.returns-clause-refused
+returns-clause-refused g c = λ Z H text lawful shows left other.
+    let head = c.in_ok-head.ensures.head text (reader_left c.new-reader.result (g.S.Source.left c.args.source.now) text c.new-reader.ensures left) in
+    let its = c.script-script.ensures Z H lawful (subst (λ m. (g.M.Machine.view m).shows Z H) (sym c.machine.ensures) shows) in
+    absurd (is_course g.M.Scripted.scripts text (script_of g.M.Scripted.scripts H) c.in_ok-head.head _ c.in_ok-course.course head.1 (subst (λ x. IsCourse x c.in_ok-head.head.id c.in_ok-head.head.count c.in_ok-course.course) its c.in_ok-course.ensures) other)
+
+pub returns-in_err-items-clause-headless : goal.returns-in_err-items-clause-headless
+returns-in_err-items-clause-headless g c = λ text left none.
+    let head = c.in_ok-head.ensures.head text (reader_left c.new-reader.result (g.S.Source.left c.args.source.now) text c.new-reader.ensures left) in absurd (is_head head.1 none)
 
 pub returns-clause-headless : goal.returns-clause-headless
 returns-clause-headless g c = λ text left none.
-    let unread = reader_left c.new-reader.result (g.S.Source.left c.args.source.now) text c.new-reader.ensures left in
-    let head = c.in_ok-head.ensures.head text unread in
-    let clash : None ≡ Some _ = sym none ∙ head.said in
-    absurd (cc clash)
+    let head = c.in_ok-head.ensures.head text (reader_left c.new-reader.result (g.S.Source.left c.args.source.now) text c.new-reader.ensures left) in absurd (is_head head.1 none)

@@ -5,7 +5,7 @@ abbrev pub invariant-chunks : goal.invariant-chunks
 invariant-chunks g l = record {
   fits : length l.text.items ≤ 65536;
   reading : (text : List ℕ) → g.S.Source.left l.fn.source ≡ Some text → (rest : List ℕ) × (g.S.Source.left l.source ≡ Some rest) × (text ≡ l.text.items ++ rest);
-  faults : g.S.Source.faults l.fn.source ≤ g.S.Source.faults l.source;
+  faults : g.S.Source.faults l.source ≡ g.S.Source.faults l.fn.source;
 }
 
 abbrev pub decreases-chunks : goal.decreases-chunks

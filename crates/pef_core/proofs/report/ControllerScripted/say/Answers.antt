@@ -1,6 +1,5 @@
-use Rattle.std.proofs.Common.{◌≡◌, List, [], ◌∷◌, ◌++◌, sym, ◌∙◌, ap, subst, refl}
+use Rattle.std.proofs.Common.{◌≡◌, [], ◌∷◌, ◌++◌, sym, ◌∙◌, ap}
 use Rattle.pef_engine.specs.declared.entry.Entry.TheVariants.{Item as Taken}
-use Rattle.pef_core.specs.declared.item.Item.TheVariants.{Event}
 use Rattle.pef_core.specs.declared.note.Note.TheVariants.{Nothing}
 use Rattle.pef_core.specs.History.{note_after, note_of, note_with, note_behind, log_of}
 use Rattle.pef_core.specs.Report.{note_line, item_line}

@@ -1,0 +1,19 @@
+-- What the two kinds of octets of an entry say.
+use Rattle.std.specs.Prelude.{◌≡◌, ℕ, List, ◌∷◌, length, Option, Some}
+use Rattle.pef_engine.specs.declared.entry.Entry.{Entry}
+use Rattle.pef_engine.specs.declared.entry.Entry.TheVariants.{Item as Taken, Outcome}
+use Rattle.pef_engine.specs.declared.marks.Mark.{Mark}
+use Rattle.pef_engine.specs.declared.marks.Mark.TheVariants.{Open as Opened, Close as Closed, Outcome as Told}
+use Rattle.pef_core.specs.declared.item.Item.{Item}
+use Rattle.pef_core.specs.declared.item.Item.TheVariants.{Open, Close}
+
+-- the entry of a mark
+abbrev pub marked : Mark → Entry Item
+marked (Opened id count) = Taken (Open id count)
+marked Closed = Taken Close
+marked (Told told) = Outcome told
+
+-- the event whose octets these are, and none where there is none
+pub record ReadsEvent (octets : List ℕ) (event : Option (List ℕ)) : Type 0 where
+  pub found : (e : List ℕ) → length e ≡ 16 → 0x01 ∷ e ≡ octets → event ≡ Some e
+  pub right : (e : List ℕ) → event ≡ Some e → (length e ≡ 16) × (0x01 ∷ e ≡ octets)
