@@ -1,7 +1,8 @@
--- Octets are those of a mark or of an event.
-use Rattle.std.proofs.Common.{◌≡◌, ℕ, List, ◌∷◌, Some, None, ap, subst, refl}
+-- Octets are those of a mark, of an event or of a command: the tag says which.
+use Rattle.std.proofs.Common.{◌≡◌, ℕ, List, ◌∷◌, length, Some, None, ap, sym, ◌∙◌, subst, refl}
 use Rattle.std.specs.Option.{option_map}
 use Rattle.board_core.specs.declared.step.Told.TheVariants.{Done, Failed}
+use Rattle.pef_commands.specs.Request.{Asked}
 use Rattle.pef_engine.specs.declared.entry.Entry.{Entry}
 use Rattle.pef_engine.specs.declared.entry.Entry.TheVariants.{Item as Taken, Outcome}
 use Rattle.pef_engine.specs.declared.marks.Mark.{Mark}
@@ -9,39 +10,78 @@ use Rattle.pef_engine.specs.declared.marks.Mark.TheVariants.{Open as Opened, Clo
 use Rattle.pef_engine.specs.Marks.{mark_octets, IsMark, ReadsMark}
 use Rattle.pef_engine.specs.Rules.{Decodes}
 use Rattle.pef_core.specs.declared.item.Item.{Item}
-use Rattle.pef_core.specs.declared.item.Item.TheVariants.{Event, Open, Close}
-use Rattle.pef_core.specs.Histories.{IsEntry, encode, controller_rules}
-use Rattle.pef_core.specs.Entries.{marked, ReadsEvent}
+use Rattle.pef_core.specs.declared.item.Item.TheVariants.{Event, Command, Open, Close}
+use Rattle.pef_core.specs.Histories.{IsRequest, IsEntry, encode, controller_rules}
+use Rattle.pef_core.specs.Entries.{marked, ReadsEvent, ReadsCommand}
 
--- no mark begins as an event does
-starts : (m : Mark) (event : List ℕ) → 0x01 ∷ event ≡ mark_octets m → ⊥
-starts (Opened id count) event same = cc same
-starts Closed event same = cc same
-starts (Told Done) event same = cc same
-starts (Told Failed) event same = cc same
+-- no mark begins as an event or a command does
+no_event : (m : Mark) (event : List ℕ) → 0x01 ∷ event ≡ mark_octets m → ⊥
+no_event (Opened id count) event same = cc same
+no_event Closed event same = cc same
+no_event (Told Done) event same = cc same
+no_event (Told Failed) event same = cc same
+
+no_command : (m : Mark) (rest : List ℕ) → 0x02 ∷ rest ≡ mark_octets m → ⊥
+no_command (Opened id count) rest same = cc same
+no_command Closed rest same = cc same
+no_command (Told Done) rest same = cc same
+no_command (Told Failed) rest same = cc same
 
 right_of : (octets : List ℕ) (m : Mark) → IsMark m × (mark_octets m ≡ octets) → IsEntry (marked m) × (encode (marked m) ≡ octets)
 right_of octets (Opened id count) right = right
 right_of octets Closed right = right
 right_of octets (Told told) right = right
 
-pub decodes_mark : (octets : List ℕ) (m : Mark) → ReadsMark octets (Some m) → Decodes controller_rules octets (Some (marked m))
-decodes_mark octets m reads = record {
+-- what the one entry of these octets is, the decoding has found
+found_as : {octets : List ℕ} (entry : Entry Item) → IsEntry entry × (encode entry ≡ octets) → ((e : Entry Item) → IsEntry e → encode e ≡ octets → Some entry ≡ Some e) → Decodes controller_rules octets (Some entry)
+found_as {octets} entry right found = record {
   found = found;
-  right = λ e is. let same : marked m ≡ e = cc is in subst (λ x. IsEntry x × (encode x ≡ octets)) same (right_of octets m (reads.right m refl));
+  right = λ e is. let same : entry ≡ e = cc is in subst (λ x. IsEntry x × (encode x ≡ octets)) same right;
 }
-  where
-    found : (e : Entry Item) → IsEntry e → encode e ≡ octets → Some (marked m) ≡ Some e
-    found (Taken (Event event)) is same = let other = (reads.right m refl).1 in absurd (starts m event (cc (same, other)))
-    found (Taken (Open id count)) is same = ap (option_map marked) (reads.found (Opened id count) is same)
-    found (Taken Close) is same = ap (option_map marked) (reads.found Closed tt same)
-    found (Outcome told) is same = ap (option_map marked) (reads.found (Told told) tt same)
 
-pub decodes_none : (octets : List ℕ) → ReadsMark octets None → ReadsEvent octets None → Decodes controller_rules octets None
-decodes_none octets none no_event = record { found = found; right = λ e is. absurd (cc is) }
+pub decodes_event : (octets event : List ℕ) → ReadsEvent octets (Some event) → Decodes controller_rules octets (Some (Taken (Event event)))
+decodes_event octets event reads = found_as (Taken (Event event)) is found
   where
-    found : (e : Entry Item) → IsEntry e → encode e ≡ octets → None ≡ Some e
-    found (Taken (Event event)) is same = absurd (cc (no_event.found event is same))
-    found (Taken (Open id count)) is same = absurd (cc (none.found (Opened id count) is same))
-    found (Taken Close) is same = absurd (cc (none.found Closed tt same))
-    found (Outcome told) is same = absurd (cc (none.found (Told told) tt same))
+    is : (length event ≡ 16) × (0x01 ∷ event ≡ octets)
+    is = reads.right event refl
+
+    found : (e : Entry Item) → IsEntry e → encode e ≡ octets → Some (Taken (Event event)) ≡ Some e
+    found (Taken (Event other)) entry same = ap (option_map (λ x. Taken (Event x))) (reads.found other entry same)
+    found (Taken (Command asked)) entry same = let here = is.1 in absurd (cc (same, here))
+    found (Taken (Open id count)) entry same = absurd (no_event (Opened id count) event (is.1 ∙ sym same))
+    found (Taken Close) entry same = absurd (no_event Closed event (is.1 ∙ sym same))
+    found (Outcome told) entry same = absurd (no_event (Told told) event (is.1 ∙ sym same))
+
+pub decodes_command : (octets : List ℕ) (asked : Asked) → ReadsCommand octets (Some asked) → Decodes controller_rules octets (Some (Taken (Command asked)))
+decodes_command octets asked reads = found_as (Taken (Command asked)) is found
+  where
+    is : IsRequest asked × (0x02 ∷ asked.netfn ∷ asked.cmd ∷ asked.payload ≡ octets)
+    is = reads.right asked refl
+
+    found : (e : Entry Item) → IsEntry e → encode e ≡ octets → Some (Taken (Command asked)) ≡ Some e
+    found (Taken (Event event)) entry same = let here = is.1 in absurd (cc (same, here))
+    found (Taken (Command other)) entry same = ap (option_map (λ x. Taken (Command x))) (reads.found other entry same)
+    found (Taken (Open id count)) entry same = absurd (no_command (Opened id count) _ (is.1 ∙ sym same))
+    found (Taken Close) entry same = absurd (no_command Closed _ (is.1 ∙ sym same))
+    found (Outcome told) entry same = absurd (no_command (Told told) _ (is.1 ∙ sym same))
+
+module _ (octets : List ℕ) (no_events : ReadsEvent octets None) (no_commands : ReadsCommand octets None) where
+  pub decodes_mark : (m : Mark) → ReadsMark octets (Some m) → Decodes controller_rules octets (Some (marked m))
+  decodes_mark m reads = found_as (marked m) (right_of octets m (reads.right m refl)) found
+    where
+      found : (e : Entry Item) → IsEntry e → encode e ≡ octets → Some (marked m) ≡ Some e
+      found (Taken (Event event)) entry same = absurd (cc (no_events.found event entry same))
+      found (Taken (Command asked)) entry same = absurd (cc (no_commands.found asked entry same))
+      found (Taken (Open id count)) entry same = ap (option_map marked) (reads.found (Opened id count) entry same)
+      found (Taken Close) entry same = ap (option_map marked) (reads.found Closed tt same)
+      found (Outcome told) entry same = ap (option_map marked) (reads.found (Told told) tt same)
+
+  pub decodes_none : ReadsMark octets None → Decodes controller_rules octets None
+  decodes_none none = record { found = found; right = λ e is. absurd (cc is) }
+    where
+      found : (e : Entry Item) → IsEntry e → encode e ≡ octets → None ≡ Some e
+      found (Taken (Event event)) entry same = absurd (cc (no_events.found event entry same))
+      found (Taken (Command asked)) entry same = absurd (cc (no_commands.found asked entry same))
+      found (Taken (Open id count)) entry same = absurd (cc (none.found (Opened id count) entry same))
+      found (Taken Close) entry same = absurd (cc (none.found Closed tt same))
+      found (Outcome told) entry same = absurd (cc (none.found (Told told) tt same))

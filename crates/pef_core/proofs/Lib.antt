@@ -1,5 +1,6 @@
-pub mod Examples
-pub mod Places
-pub mod Behind
-pub mod OpenedLast
+pub mod Standing
+pub mod LeftSteps
+pub mod Deeds
+pub mod Beginning
+pub mod Saying
 pub mod Decoding

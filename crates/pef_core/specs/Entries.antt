@@ -1,11 +1,13 @@
--- What the two kinds of octets of an entry say.
+-- What the kinds of octets of an entry say.
 use Rattle.std.specs.Prelude.{◌≡◌, ℕ, List, ◌∷◌, length, Option, Some}
+use Rattle.pef_commands.specs.Request.{Asked}
 use Rattle.pef_engine.specs.declared.entry.Entry.{Entry}
 use Rattle.pef_engine.specs.declared.entry.Entry.TheVariants.{Item as Taken, Outcome}
 use Rattle.pef_engine.specs.declared.marks.Mark.{Mark}
 use Rattle.pef_engine.specs.declared.marks.Mark.TheVariants.{Open as Opened, Close as Closed, Outcome as Told}
 use Rattle.pef_core.specs.declared.item.Item.{Item}
 use Rattle.pef_core.specs.declared.item.Item.TheVariants.{Open, Close}
+use Rattle.pef_core.specs.Histories.{IsRequest}
 
 -- the entry of a mark
 abbrev pub marked : Mark → Entry Item
@@ -17,3 +19,8 @@ marked (Told told) = Outcome told
 pub record ReadsEvent (octets : List ℕ) (event : Option (List ℕ)) : Type 0 where
   pub found : (e : List ℕ) → length e ≡ 16 → 0x01 ∷ e ≡ octets → event ≡ Some e
   pub right : (e : List ℕ) → event ≡ Some e → (length e ≡ 16) × (0x01 ∷ e ≡ octets)
+
+-- the command whose octets these are, and none where there is none
+pub record ReadsCommand (octets : List ℕ) (asked : Option Asked) : Type 0 where
+  pub found : (a : Asked) → IsRequest a → 0x02 ∷ a.netfn ∷ a.cmd ∷ a.payload ≡ octets → asked ≡ Some a
+  pub right : (a : Asked) → asked ≡ Some a → IsRequest a × (0x02 ∷ a.netfn ∷ a.cmd ∷ a.payload ≡ octets)

@@ -1,19 +1,22 @@
 -- What a controller's scripts say to it, and what it reports of its items.
-use Rattle.std.specs.Prelude.{ℕ, List, [], ◌∷◌, ◌++◌, Option, None, option_map, bytes_eq, if◌then◌else◌, codes, decimal}
+use Rattle.std.specs.Prelude.{ℕ, List, [], ◌∷◌, ◌++◌, Option, Some, None, option_map, bytes_eq, if◌then◌else◌, codes, decimal, slice_index}
 use Rattle.std.specs.Int.{to_be_bytes, w16, w32}
 use Rattle.hex.specs.Hex.{encode_lower}
 use Rattle.event_record.specs.declared.fault.RecordFault.TheVariants.{ReservedId, Kind}
 use Rattle.event_record.specs.declared.fault.LogFault.TheVariants.{Duplicate, Full}
+use Rattle.pef_commands.specs.Request.{request_of}
 use Rattle.pef_engine.specs.declared.entry.Entry.{Entry}
 use Rattle.pef_engine.specs.declared.script.ScriptStep.{ScriptStep}
 use Rattle.pef_engine.specs.declared.script.ScriptStep.TheVariants.{Opens, Takes, Closes}
 use Rattle.pef_engine.specs.Scripts.{ScriptRules}
-use Rattle.script_text.specs.Forms.{words_of, octets_exactly}
+use Rattle.script_text.specs.Forms.{words_of, octets_exactly, octets_up_to}
 use Rattle.pef_core.specs.declared.item.Item.{Item}
-use Rattle.pef_core.specs.declared.item.Item.TheVariants.{Event, Open, Close}
+use Rattle.pef_core.specs.declared.item.Item.TheVariants.{Event, Command, Open, Close}
 use Rattle.pef_core.specs.declared.note.Note.{Note}
 use Rattle.pef_core.specs.declared.note.Note.TheVariants.{Added, Refused, NotAdded, Nothing}
-use Rattle.pef_core.specs.History.{note_of, log_of}
+use Rattle.pef_core.specs.Past.{note, reply}
+use Rattle.pef_core.specs.Values.{Values}
+use Rattle.pef_core.specs.Deeds.{item_deed, standing}
 
 -- a number of 16 bits in four digits
 abbrev pub id_digits : ℕ → List ℕ
@@ -28,25 +31,60 @@ note_line (NotAdded (Duplicate id)) = codes "event duplicate " ++ id_digits id +
 note_line (NotAdded Full) = codes "event full\n"
 note_line Nothing = []
 
+-- the line of a command: its reply, from the completion code on
+abbrev pub reply_line : Option (List ℕ) → List ℕ
+reply_line None = []
+reply_line (Some octets) = codes "reply " ++ encode_lower octets ++ codes "\n"
+
+abbrev pub open_line : ℕ → ℕ → List ℕ
+open_line id count = codes "open " ++ encode_lower (to_be_bytes w32 id) ++ codes " " ++ decimal count ++ codes "\n"
+
+-- the line of an item that is taken where these values stand
+abbrev pub line_by : Values → Item → List ℕ
+line_by v (Event octets) = note_line (note (item_deed v (Event octets) ∷ []))
+line_by v (Command asked) = reply_line (reply (item_deed v (Command asked) ∷ []))
+line_by v (Open id count) = open_line id count
+line_by v Close = codes "close\n"
+
 -- the line of an item that comes behind H
 abbrev pub item_line : List ℕ → List (Entry Item) → Item → List ℕ
-item_line Z H (Event octets) = note_line (note_of (log_of H) octets)
-item_line Z H (Open id count) = codes "open " ++ encode_lower (to_be_bytes w32 id) ++ codes " " ++ decimal count ++ codes "\n"
-item_line Z H Close = codes "close\n"
+item_line Z H item = line_by (standing Z H) item
+
+-- the 16 octets of a record in 32 hexadecimal digits
+abbrev pub event_of : List (List ℕ) → Option Item
+event_of [] = None
+event_of (digits ∷ []) = option_map Event (octets_exactly 16 digits)
+event_of (digits ∷ other ∷ more) = None
+
+abbrev pub command_by : Option (List ℕ) → Option (List ℕ) → Option (List ℕ) → Option Item
+command_by (Some netfn) (Some cmd) (Some payload) = option_map Command (request_of (slice_index netfn 0) (slice_index cmd 0) payload)
+command_by (Some netfn) (Some cmd) None = None
+command_by (Some netfn) None payload = None
+command_by None cmd payload = None
+
+-- network function and command in two digits each, and 0 to 64 octets
+abbrev pub command_of : List (List ℕ) → Option Item
+command_of [] = None
+command_of (netfn ∷ []) = None
+command_of (netfn ∷ cmd ∷ []) = None
+command_of (netfn ∷ cmd ∷ payload ∷ []) = command_by (octets_exactly 1 netfn) (octets_exactly 1 cmd) (octets_up_to 64 payload)
+command_of (netfn ∷ cmd ∷ payload ∷ other ∷ more) = None
 
 abbrev pub item_of_words : List (List ℕ) → Option Item
 item_of_words [] = None
-item_of_words (first ∷ []) = None
-item_of_words (first ∷ digits ∷ []) = if bytes_eq first (codes "event") then option_map Event (octets_exactly 16 digits) else None
-item_of_words (first ∷ digits ∷ other ∷ more) = None
+item_of_words (first ∷ words) =
+    if bytes_eq first (codes "event") then event_of words
+    else if bytes_eq first (codes "cmd") then command_of words
+    else None
 
--- the item of a line: `event` and the 16 octets of a record in 32 hexadecimal digits
+-- the item of a line: `event` and a record, or `cmd` and a command
 abbrev pub item_of : List ℕ → Option Item
 item_of line = item_of_words (words_of line)
 
 -- what an item does to the script that was opened last
 abbrev pub step_in : Item → ScriptStep
 step_in (Event octets) = Takes
+step_in (Command asked) = Takes
 step_in (Open id count) = Opens id count
 step_in Close = Closes
 

@@ -1,49 +1,61 @@
 //! The controller's state.
 
-ghost use Rattle.std.specs.Prelude.{◌≤◌, length};
-
-use crate::asking::first_asking;
 use crate::events::add_event;
 use crate::item::{Item, step_in};
+use crate::jobs::{first_part, part_behind, step_of};
 use crate::note::Note;
-use board_core::{Act, Step};
+use crate::replying::reply_to;
+use crate::running::Running;
+use board_core::{Octets, Step};
 use event_record::Log;
-use filter_table::Filter;
+use lan_dest::Lan;
+use pef_commands::Request;
+use pef_config::{Config, Initial};
 use pef_engine::{Entry, Script, may_come, script_behind};
+use pef_match::job_of;
 use std::alloc::{AllocError, Global};
 
-/// The controller of one event filter: the records that were logged, and how far they are processed.
+/// A controller: its parameters, the records that were logged, and how far they are processed.
 #[derive(Drop)]
 pub struct Controller {
-    filter: Filter,
+    config: Config,
+    lan: Lan,
     log: Log,
-    /// How many records at the front of the log are processed. The next one, where there is one, asks for an action
-    /// and waits for its outcome.
+    /// How many records at the front of the log are processed.
     mark: usize,
+    /// The job that runs, of the record behind the mark. While one runs its step is due.
+    running: Option<Running>,
     script: Option<Script>,
     note: Note,
-    ghost within: { mark ≤ length log },
+    reply: Option<Octets>,
 }
 
 impl Controller {
-    ghost use Rattle.std.specs.Prelude.{◌≡◌, ◌↔◌, ◌+◌, ◌<◌, ◌≤◌, length, ℕ, [], List, IsSome, IsTrue, IfOk};
-    ghost use Rattle.pef_core.specs.Asking.{filter_of};
-    ghost use Rattle.pef_core.specs.Histories.{IsItem};
-    ghost use Rattle.pef_engine.specs.Scripts.{MayCome, script_with, script_of};
+    ghost use Rattle.board_core.specs.declared.step.Told.{Told};
+    ghost use Rattle.std.specs.Prelude.{◌≡◌, ◌↔◌, ◌<◌, ℕ, length, [], ◌∷◌, List, None, IsTrue, IfOk, option_copied};
+    ghost use Rattle.pef_config.specs.Kept.{tables};
+    ghost use Rattle.pef_engine.specs.Scripts.{MayCome, script_with, script_from, script_of};
+    ghost use Rattle.pef_core.specs.Settings.{initial_of};
+    ghost use Rattle.pef_core.specs.Deeds.{item_deed, deed, standing};
+    ghost use Rattle.pef_core.specs.After.{with_deed, with_next_job, values_after, begun};
+    ghost use Rattle.pef_core.specs.Past.{WasTold};
+    ghost use Rattle.pef_core.specs.Course.{is_enabled};
     ghost use Rattle.pef_core.specs.Report.{step_in, controller_scripts};
-    ghost use Rattle.pef_core.specs.History.{note_after, log_with, note_with};
-    ghost use Rattle.pef_core.specs.View.{ShowsController, AllowedBy, Continues, due_of};
+    ghost use Rattle.pef_core.specs.View.{shown, ShowsController, AllowedBy, due_of};
 
-    /// The controller of this filter at the start of its history, with room for a whole log.
-    pub(crate) fn new(alloc: Global, filter: Filter) -> Result<Controller, AllocError>
-        ensures { IfOk result (λ controller. (Z : List ℕ) → filter ≡ filter_of Z → ShowsController controller Z []) }
+    /// The controller with these initial parameters at the start of its history, with room for a whole log.
+    pub(crate) fn new(alloc: Global, initial: &Initial) -> Result<Controller, AllocError>
+        ensures { IfOk result (λ controller. (Z : List ℕ) → initial.now ≡ initial_of Z → ShowsController controller Z []) }
     {
         Ok(Controller {
-            filter,
+            config: Config::new(initial),
+            lan: Lan::new(),
             log: Log::new(alloc)?,
             mark: 0,
+            running: None,
             script: None,
             note: Note::Nothing,
+            reply: None,
         })
     }
 
@@ -54,66 +66,147 @@ impl Controller {
         self.script
     }
 
-    /// What the last item did; an outcome leaves it as it is.
+    /// What the last item did to the log; an outcome leaves it as it is.
     pub fn note(&self) -> Note
-        ensures { (Z : List ℕ) (H : List (Entry Item)) → ShowsController self.now Z H → result ≡ note_after H }
+        ensures { (Z : List ℕ) (H : List (Entry Item)) → ShowsController self.now Z H → result ≡ (standing Z H).note }
     {
         self.note
     }
 
-    /// The step of the record at the mark.
+    /// The reply to the last item, from the completion code on, where that was a command; an outcome leaves it as it is.
+    pub fn reply(&self) -> Option<&Octets>
+        ensures { (Z : List ℕ) (H : List (Entry Item)) → ShowsController self.now Z H → option_copied result ≡ (standing Z H).reply }
+    {
+        self.reply.as_ref()
+    }
+
+    /// The step of the job that runs.
     pub(crate) fn due(&self) -> Option<Step>
         ensures { result ≡ due_of self.now }
     {
-        let event = self.log.get(self.mark)?;
-        Some(Step::Act {
-            kind: Act::DiagInt,
-            id: event.id(),
-        })
+        match &self.running {
+            Some(running) => Some(step_of(running)),
+            None => None,
+        }
     }
 
     /// Whether the entry may come next.
     pub(crate) fn accepts(&self, entry: &Entry<Item>) -> bool
         ensures { IsTrue result ↔ AllowedBy self.now entry.now }
     {
-        let is_due = self.mark < self.log.len();
+        let is_due = self.running.is_some();
         match entry {
-            Entry::Item(item) => !is_due && may_come(self.script, step_in(*item)),
+            Entry::Item(item) => !is_due && may_come(self.script, step_in(item)),
             Entry::Outcome(_) => is_due,
         }
     }
 
-    /// Goes on with an entry that is allowed.
+    /// Goes on with an entry that is allowed: first what it does, and then the job that begins.
     pub(crate) fn go_on(&mut self, entry: &Entry<Item>)
         requires { AllowedBy self.old entry.now }
-        ensures { Continues self.old self.new entry.now }
+        ensures values { shown self.new ≡ values_after (deed (shown self.old) entry.now) (shown self.old) }
+        ensures script { self.new.script ≡ script_from controller_scripts self.old.script (entry.now ∷ []) }
     {
-        let start = match entry {
-            Entry::Item(item) => {
-                self.take(item);
-                self.mark
-            }
-            Entry::Outcome(_) => {
-                prove!(self.mark < self.log.len());
-                self.mark + 1
-            }
-        };
-        self.mark = first_asking(&self.filter, &self.log, start);
+        self.enter(entry);
+        self.begin_next();
     }
 
-    /// Takes an item, and leaves the mark where it stands.
+    // What the entry does, but for the job that may begin then.
+    fn enter(&mut self, entry: &Entry<Item>)
+        requires { AllowedBy self.old entry.now }
+        ensures values { shown self.new ≡ with_deed (deed (shown self.old) entry.now) (shown self.old) }
+        ensures script { self.new.script ≡ script_from controller_scripts self.old.script (entry.now ∷ []) }
+    {
+        match entry {
+            Entry::Item(item) => self.take(item),
+            Entry::Outcome(_) => self.hear(),
+        }
+    }
+
+    // Takes an item, but for the job that may begin then.
     fn take(&mut self, item: &Item)
         requires { MayCome self.old.script (step_in item.now) }
-        ensures filter { self.new.filter ≡ self.old.filter }
-        ensures mark { self.new.mark ≡ self.old.mark }
-        ensures log { self.new.log ≡ log_with self.old.log (Entry.Item item.now) }
+        ensures values { shown self.new ≡ with_deed (item_deed (shown self.old) item.now) (shown self.old) }
         ensures script { self.new.script ≡ script_with self.old.script (step_in item.now) }
-        ensures note { self.new.note ≡ note_with self.old.log self.old.note (Entry.Item item.now) }
     {
-        self.script = script_behind(self.script, step_in(*item));
-        self.note = match item {
-            Item::Event(octets) => add_event(&mut self.log, octets),
-            Item::Open { .. } | Item::Close => Note::Nothing,
-        };
+        self.script = script_behind(self.script, step_in(item));
+        match item {
+            Item::Event(octets) => self.log_event(octets),
+            Item::Command(request) => self.answer(request),
+            Item::Open { .. } | Item::Close => {
+                self.note = Note::Nothing;
+                self.reply = None;
+            }
+        }
+    }
+
+    fn log_event(&mut self, octets: &[u8; 16])
+        ensures values { shown self.new ≡ with_deed (item_deed (shown self.old) (Item.Event octets.now)) (shown self.old) }
+        ensures script { self.new.script ≡ self.old.script }
+    {
+        self.note = add_event(&mut self.log, octets);
+        self.reply = None;
+    }
+
+    fn answer(&mut self, request: &Request)
+        ensures values { shown self.new ≡ with_deed (item_deed (shown self.old) (Item.Command request.now)) (shown self.old) }
+        ensures script { self.new.script ≡ self.old.script }
+    {
+        self.reply = Some(reply_to(&mut self.config, &mut self.lan, request));
+        self.note = Note::Nothing;
+    }
+
+    // The step of the open part had its outcome: the next part of the job is open, or the job is over. It makes no difference what
+    // was told.
+    fn hear(&mut self)
+        ensures values { (told : Told) → shown self.new ≡ with_deed (WasTold told) (shown self.old) }
+        ensures script { self.new.script ≡ self.old.script }
+    {
+        if let Some(running) = &mut self.running {
+            match part_behind(running) {
+                Some(part) => running.part = part,
+                None => {
+                    self.mark = running.number;
+                    self.running = None;
+                }
+            }
+        }
+    }
+
+    // Begins the next job, where one may begin.
+    fn begin_next(&mut self)
+        ensures values { shown self.new ≡ with_next_job (shown self.old) }
+        ensures script { self.new.script ≡ self.old.script }
+    {
+        if self.running.is_none() && self.is_enabled() {
+            self.begin_jobs();
+        }
+    }
+
+    fn is_enabled(&self) -> bool
+        ensures { result ≡ is_enabled (tables self.now.config) }
+    {
+        self.config.control() % 2 == 1
+    }
+
+    // Begins the first job with a part among the records behind the mark, and passes over those for which nothing is to be done.
+    fn begin_jobs(&mut self)
+        requires { self.old.running ≡ None }
+        ensures values { shown self.new ≡ begun (shown self.old) }
+        ensures script { self.new.script ≡ self.old.script }
+    {
+        'records: while let Some(event) = self.log.get(self.mark) {
+            prove!(self.mark < self.log.len());
+            let job = job_of(&self.config, event);
+            if let Some(part) = first_part(&job) {
+                self.running = Some(Running {
+                    number: self.mark + 1,
+                    job,
+                    part,
+                });
+                return;
+            }
+            self.mark += 1;
+        }
     }
 }

@@ -1,25 +1,29 @@
 //! The octets of an entry.
-ghost use Rattle.std.specs.Prelude.{◌≡◌};
+ghost use Rattle.std.specs.Prelude.{◌≡◌, ◌≤◌, ◌++◌, length};
 ghost use Rattle.pef_engine.specs.Rules.{Decodes};
 ghost use Rattle.pef_core.specs.Histories.{encode, controller_rules};
-ghost use Rattle.pef_core.specs.Entries.{marked, ReadsEvent};
+ghost use Rattle.pef_core.specs.Entries.{marked, ReadsEvent, ReadsCommand};
 
 use crate::item::Item;
 use board_core::Payload;
+use pef_commands::Request;
 use pef_engine::{Entry, Mark, read_mark, write_mark};
 
 const EVENT: u8 = 0x01;
+
+const COMMAND: u8 = 0x02;
 
 /// The octets of the entry: its tag, and then what it says.
 pub(crate) fn encode(entry: &Entry<Item>) -> Payload
     ensures { result ≡ encode entry.now }
 {
     match entry {
-        Entry::Item(Item::Event(octets)) => {
-            let mut payload = Payload::new();
-            payload.push(EVENT);
-            payload.extend(octets);
-            payload
+        Entry::Item(Item::Event(octets)) => tagged(&[EVENT], octets),
+        Entry::Item(Item::Command(request)) => {
+            tagged(
+                &[COMMAND, request.netfn(), request.cmd()],
+                request.payload(),
+            )
         }
         Entry::Item(Item::Open { id, count }) => write_mark(Mark::Open {
             id: *id,
@@ -30,13 +34,31 @@ pub(crate) fn encode(entry: &Entry<Item>) -> Payload
     }
 }
 
+// What an entry says, behind its front.
+fn tagged(front: &[u8], octets: &[u8]) -> Payload
+    requires front { length front.now ≤ 3 }
+    requires octets { length octets.now ≤ 64 }
+    ensures { result ≡ front.now ++ octets.now }
+{
+    let mut payload = Payload::new();
+    payload.extend(front);
+    payload.extend(octets);
+    payload
+}
+
 /// The entry whose octets these are, and None where they are those of none.
 pub(crate) fn decode(octets: &[u8]) -> Option<Entry<Item>>
     ensures { Decodes controller_rules octets.now result }
 {
+    if let Some(event) = event_in(octets) {
+        return Some(Entry::Item(Item::Event(event)));
+    }
+    if let Some(request) = command_in(octets) {
+        return Some(Entry::Item(Item::Command(request)));
+    }
     match read_mark(octets) {
         Some(mark) => Some(marked(mark)),
-        None => Some(Entry::Item(Item::Event(event_in(octets)?))),
+        None => None,
     }
 }
 
@@ -57,6 +79,16 @@ fn event_in(octets: &[u8]) -> Option<[u8; 16]>
 {
     match octets {
         [EVENT, event @ ..] => <[u8; 16]>::try_from(event).ok(),
+        _ => None,
+    }
+}
+
+// The command whose octets these are.
+fn command_in(octets: &[u8]) -> Option<Request>
+    ensures { ReadsCommand octets.now result }
+{
+    match octets {
+        [COMMAND, netfn, cmd, payload @ ..] => Request::read(*netfn, *cmd, payload),
         _ => None,
     }
 }

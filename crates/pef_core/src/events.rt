@@ -1,14 +1,17 @@
 //! Events for the log.
 ghost use Rattle.std.specs.Prelude.{◌≡◌};
-ghost use Rattle.pef_core.specs.History.{log_by, note_of};
+ghost use Rattle.event_record.specs.Rules.{record_fault};
+ghost use Rattle.event_record.specs.Log.{add_fault};
+ghost use Rattle.pef_core.specs.After.{records_after, note_after};
+ghost use Rattle.pef_core.specs.Deeds.{event_deed};
 
 use crate::note::Note;
 use event_record::{Log, Record};
 
-/// Adds the record of these octets to the log, where they are one and the log takes it.
+/// Adds the record of these octets to the log, where they are one and the log takes it, and says what came of it.
 pub(crate) fn add_event(log: &mut Log, octets: &[u8; 16]) -> Note
-    ensures note { result ≡ note_of log.old octets.now }
-    ensures log { log.new ≡ log_by log.old octets.now }
+    ensures note { result ≡ note_after (event_deed (record_fault octets.now) (add_fault log.old octets.now) octets.now) Note.Nothing }
+    ensures log { log.new ≡ records_after (event_deed (record_fault octets.now) (add_fault log.old octets.now) octets.now) log.old }
 {
     let event = match Record::read(octets) {
         Ok(event) => event,

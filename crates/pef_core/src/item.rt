@@ -1,15 +1,18 @@
 //! What a controller takes.
-ghost use Rattle.std.specs.Prelude.{◌≡◌};
+ghost use Rattle.std.specs.Prelude.{◌≡◌, length};
 ghost use Rattle.pef_core.specs.Report.{step_in};
-ghost use Rattle.pef_core.specs.Histories.{IsItem};
+ghost use Rattle.pef_core.specs.Histories.{IsItem, IsRequest};
 
+use pef_commands::Request;
 use pef_engine::ScriptStep;
 
 /// An item of a controller's history.
-#[derive(Clone, Copy, Debug, PartialEq, Eq)]
+#[derive(Drop)]
 pub enum Item {
     /// Sixteen octets for the log, which takes them where they are an event record (IPMI 2.0, section 32.1).
     Event([u8; 16]),
+    /// A command, which is answered (IPMI 2.0, chapters 23 and 30).
+    Command(Request),
     /// From here on items are taken from this script, which has `count` of them.
     Open { id: u32, count: u32 },
     /// All items of the script were taken.
@@ -17,13 +20,37 @@ pub enum Item {
 }
 
 /// What the item does to the script that was opened last.
-pub(crate) fn step_in(item: Item) -> ScriptStep
-    ensures step { result ≡ step_in item }
-    ensures is_item { IsItem item }
+pub(crate) fn step_in(item: &Item) -> ScriptStep
+    ensures step { result ≡ step_in item.now }
+    ensures is_item { IsItem item.now }
 {
     match item {
-        Item::Event(_) => ScriptStep::Takes,
-        Item::Open { id, count } => ScriptStep::Opens { id, count },
+        Item::Event(octets) => {
+            is_event(octets);
+            ScriptStep::Takes
+        }
+        Item::Command(request) => {
+            is_request(request);
+            ScriptStep::Takes
+        }
+        Item::Open { id, count } => ScriptStep::Opens {
+            id: *id,
+            count: *count,
+        },
         Item::Close => ScriptStep::Closes,
     }
+}
+
+// Facts for proofs: an event has 16 octets, and a request has its ranges.
+fn is_event(octets: &[u8; 16])
+    ensures { length octets.now ≡ 16 }
+{
+    prove!(octets.len() == 16);
+}
+
+fn is_request(request: &Request)
+    ensures { IsRequest request.now }
+{
+    let _ = request.netfn();
+    let _ = request.payload();
 }

@@ -8,7 +8,7 @@ use crate::controller::Controller;
 use crate::entries;
 use crate::item::Item;
 use board_core::{Payload, Step};
-use filter_table::Filter;
+use pef_config::Initial;
 use pef_engine::{Entry, Machine, MachineFault};
 use std::alloc::{AllocError, Global};
 
@@ -16,10 +16,16 @@ use std::alloc::{AllocError, Global};
 const KIND: u8 = 1;
 /// How many octets of settings it has.
 const SETTINGS: usize = 55;
-/// Where the filter stands among them.
+/// Where the initial parameters stand among them.
+const CONTROL: usize = 32;
+
+const ACTIONS: usize = 33;
+
+const DELAY: usize = 34;
+
 const FILTER: usize = 35;
 
-/// A controller's settings are 55 octets, and the last 20 of them are its filter.
+/// Of a controller's 55 octets of settings the last 23 are initial parameters.
 impl Machine for Controller {
     type Item = Item;
 
@@ -48,7 +54,13 @@ impl Machine for Controller {
     fn fresh(alloc: Global, settings: &[u8]) -> Result<Self, AllocError> {
         let mut filter = [0; 20];
         filter.copy_from_slice(&settings[FILTER..]);
-        Controller::new(alloc, Filter::read(&filter))
+        let initial = Initial {
+            control: settings[CONTROL],
+            actions: settings[ACTIONS],
+            delay: settings[DELAY],
+            filter,
+        };
+        Controller::new(alloc, &initial)
     }
 
     fn allows(&self, entry: &Entry<Item>) -> bool {

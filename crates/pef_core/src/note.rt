@@ -2,7 +2,7 @@
 
 use event_record::{LogFault, RecordFault};
 
-/// What the last item did.
+/// What the last item did to the log.
 #[derive(Clone, Copy, Debug, PartialEq, Eq)]
 pub enum Note {
     /// The record with this ID was added to the log.

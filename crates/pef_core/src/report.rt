@@ -1,16 +1,19 @@
 //! What a controller says of its items, and the items of its scripts.
-ghost use Rattle.std.specs.Prelude.{◌≡◌, ◌++◌, ◌≤◌, [], length};
+ghost use Rattle.std.specs.Prelude.{◌≡◌, ◌++◌, ◌≤◌, [], length, codes, option_copied};
 ghost use Rattle.report_line.specs.Line.{line_end};
-ghost use Rattle.pef_core.specs.Report.{controller_scripts, note_line, item_line, item_of, id_digits};
+ghost use Rattle.script_text.specs.Forms.{words_of, octets_exactly, octets_up_to};
+ghost use Rattle.pef_core.specs.Report.{controller_scripts, note_line, reply_line, open_line, item_of, event_of, command_of, command_by, id_digits};
 ghost use Rattle.pef_core.specs.Laws.{controller_scripted};
 
 use crate::controller::Controller;
 use crate::item::Item;
 use crate::note::Note;
+use board_core::Octets;
 use event_record::{LogFault, RecordFault};
+use pef_commands::Request;
 use pef_engine::{Script, Scripted};
 use report_line::{LineBuilder, ReportLine};
-use script_text::{first_word, octets_exactly};
+use script_text::{first_word, octets_exactly, octets_up_to};
 
 impl Scripted for Controller {
     ghost scripts = { controller_scripts };
@@ -34,31 +37,66 @@ impl Scripted for Controller {
     }
 
     fn item_of(line: &[u8]) -> Option<Item> {
-        event_of(line)
+        read_item(line)
     }
 
     fn say(&self, item: &Item) -> ReportLine {
         match item {
             Item::Event(_) => note_text(self.note()),
+            Item::Command(_) => reply_text(self.reply()),
             Item::Open { id, count } => open_text(*id, *count),
             Item::Close => LineBuilder::new().text(b"close").end(),
         }
     }
 }
 
-// The item of a line `event RECORD`.
-fn event_of(line: &[u8]) -> Option<Item>
+// The item of a line `event RECORD` or `cmd NETFN COMMAND OCTETS`.
+fn read_item(line: &[u8]) -> Option<Item>
     ensures { result ≡ item_of line.now }
 {
     let (word, rest) = first_word(line);
-    let (digits, rest) = first_word(rest?);
+    let rest = rest?;
+    if word == b"event".as_slice() {
+        return event_of(rest);
+    }
+    if word == b"cmd".as_slice() {
+        return command_of(rest);
+    }
+    None
+}
+
+// The item of the words behind `event`: a record in 32 digits.
+fn event_of(words: &[u8]) -> Option<Item>
+    ensures { result ≡ event_of (words_of words.now) }
+{
+    let (digits, rest) = first_word(words);
     if rest.is_some() {
         return None;
     }
-    if word != b"event".as_slice() {
+    Some(Item::Event(octets_exactly::<16>(digits)?))
+}
+
+// The item of the words behind `cmd`: network function and command in two digits each, and the data.
+fn command_of(words: &[u8]) -> Option<Item>
+    ensures { result ≡ command_of (words_of words.now) }
+{
+    let (netfn, rest) = first_word(words);
+    let (cmd, rest) = first_word(rest?);
+    let (payload, rest) = first_word(rest?);
+    if rest.is_some() {
         return None;
     }
-    Some(Item::Event(octets_exactly::<16>(digits)?))
+    command_with(netfn, cmd, payload)
+}
+
+// The command of these three words.
+fn command_with(netfn: &[u8], cmd: &[u8], payload: &[u8]) -> Option<Item>
+    ensures { result ≡ command_by (octets_exactly 1 netfn.now) (octets_exactly 1 cmd.now) (octets_up_to 64 payload.now) }
+{
+    let [netfn] = octets_exactly::<1>(netfn)?;
+    let [cmd] = octets_exactly::<1>(cmd)?;
+    let payload = octets_up_to::<64>(payload)?;
+    Some(Item::Command(Request::read(netfn, cmd, payload.as_slice())?))
 }
 
 // A word, and an ID in four digits behind it.
@@ -88,8 +126,21 @@ fn note_text(note: Note) -> ReportLine
     }
 }
 
+fn reply_text(reply: Option<&Octets>) -> ReportLine
+    ensures { result ≡ reply_line (option_copied reply.entry) }
+{
+    let Some(octets) = reply else {
+        return ReportLine::new();
+    };
+    octets.fits();
+    LineBuilder::new()
+        .text(b"reply ")
+        .hexadecimal(octets.as_slice())
+        .end()
+}
+
 fn open_text(id: u32, count: u32) -> ReportLine
-    ensures { result ≡ item_line [] [] (Item.Open id count) }
+    ensures { result ≡ open_line id count }
 {
     LineBuilder::new()
         .text(b"open ")

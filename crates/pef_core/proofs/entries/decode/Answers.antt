@@ -1,12 +1,19 @@
 use Rattle.std.proofs.Common.{subst}
 use Rattle.pef_engine.specs.Marks.{ReadsMark}
-use Rattle.pef_core.specs.Entries.{ReadsEvent}
+use Rattle.pef_core.specs.Entries.{ReadsEvent, ReadsCommand}
 use Rattle.pef_core.proofs.Decoding.{decodes_mark, decodes_none}
 use Rattle.pef_core.proofs.entries.decode.Goals as goal
 
-pub returns-in-Some : goal.returns-in-Some
-returns-in-Some c = rw c.marked.ensures (decodes_mark c.args.octets.now c.in-Some.mark (subst (ReadsMark c.args.octets.now) c.in-Some.is c.read_mark.ensures))
+pub returns-in-Some-read_mark : goal.returns-in-Some-read_mark
+returns-in-Some-read_mark c =
+    let octets = c.args.octets.now in
+    let no_event = subst (ReadsEvent octets) c.in_default.is c.event_in.ensures in
+    let no_command = subst (ReadsCommand octets) c.in_default-command_in.is c.command_in.ensures in
+    rw c.marked.ensures (decodes_mark octets no_event no_command c.in-Some-read_mark.mark (subst (ReadsMark octets) c.in-Some-read_mark.is c.read_mark.ensures))
 
-pub returns-in_err-event_in-in-None : goal.returns-in_err-event_in-in-None
-returns-in_err-event_in-in-None c =
-    rw c.from_residual.ensures (decodes_none c.args.octets.now (subst (ReadsMark c.args.octets.now) c.in-None.is c.read_mark.ensures) (subst (ReadsEvent c.args.octets.now) c.in_err-event_in-in-None.was c.event_in.ensures))
+pub returns-in-None : goal.returns-in-None
+returns-in-None c =
+    let octets = c.args.octets.now in
+    let no_event = subst (ReadsEvent octets) c.in_default.is c.event_in.ensures in
+    let no_command = subst (ReadsCommand octets) c.in_default-command_in.is c.command_in.ensures in
+    decodes_none octets no_event no_command (subst (ReadsMark octets) c.in-None.is c.read_mark.ensures)
