@@ -4,3 +4,4 @@ pub mod Deeds
 pub mod Beginning
 pub mod Saying
 pub mod Decoding
+pub mod Examples

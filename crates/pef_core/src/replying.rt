@@ -23,7 +23,11 @@ pub(crate) fn reply_to(config: &mut Config, lan: &mut Lan, request: &Request) ->
 {
     match parse(request) {
         Err(code) => code_alone(code),
-        Ok(Command::SetPef { parameter, payload }) => set_pef(config, parameter, payload.as_slice()),
+        Ok(Command::SetPef { parameter, payload }) => set_pef(
+            config,
+            parameter,
+            payload.as_slice(),
+        ),
         Ok(
             Command::GetPef {
                 parameter,

@@ -2,7 +2,9 @@
 use super::*;
 use board_core::{Act, Step, Told};
 use event_record::{LogFault, RecordFault};
+use pef_commands::Request;
 use pef_engine::{Entry, Machine, Script, Scripted};
+use std::process::Abort;
 use std::test::Fail;
 
 /// Settings whose filter is enabled and asks for a diagnostic interrupt, for sensor type 04h and offset 2.
@@ -38,11 +40,27 @@ fn open(id: u32, count: u32) -> Entry<Item> {
     Entry::Item(Item::Open { id, count })
 }
 
-const CLOSE: Entry<Item> = Entry::Item(Item::Close);
+fn close() -> Entry<Item> {
+    Entry::Item(Item::Close)
+}
 
-const DONE: Entry<Item> = Entry::Outcome(Told::Done);
+fn told(told: Told) -> Entry<Item> {
+    Entry::Outcome(told)
+}
 
-const FAILED: Entry<Item> = Entry::Outcome(Told::Failed);
+/// A command of the network function 04h with at most 64 octets of data.
+fn command(rt: &impl Abort, cmd: u8, payload: &[u8]) -> Entry<Item> {
+    let request = Request::read(0x04, cmd, payload).expect(rt, "a request");
+    Entry::Item(Item::Command(request))
+}
+
+/// The filter of the settings with these actions, as the data of a command that writes it as this filter.
+fn filter(number: u8, actions: u8) -> [u8; 22] {
+    [
+        0x06, number, 0x80, actions, 0x00, 0x10, 0xFF, 0xFF, 0x04, 0xFF, 0x01, 0x04, 0, 0, 0, 0, 0,
+        0, 0, 0, 0, 0,
+    ]
+}
 
 /// Goes on with the entry where it is allowed, and says whether it is.
 fn go(controller: &mut Controller, entry: &Entry<Item>) -> bool {
@@ -53,15 +71,10 @@ fn go(controller: &mut Controller, entry: &Entry<Item>) -> bool {
     is_allowed
 }
 
-/// The record whose diagnostic interrupt is due.
-fn due(controller: &Controller) -> Option<u16> {
+/// The action that is due, and its record.
+fn due(controller: &Controller) -> Option<(Act, u16)> {
     match controller.next() {
-        Some(
-            Step::Act {
-                kind: Act::DiagInt,
-                id,
-            },
-        ) => Some(id),
+        Some(Step::Act { kind, id }) => Some((kind, id)),
         _ => None,
     }
 }
@@ -74,8 +87,13 @@ fn each_entry_has_its_effect(rt: HostRuntime) -> Result<(), Fail> {
     // The entry, whose interrupt is due behind it, what it did, and what of the script is taken.
     let rows = [
         (open(7, 3), None, Note::Nothing, 0),
-        (event(1, 0x02, 0x52), Some(1), Note::Added(1), 1),
-        (FAILED, None, Note::Added(1), 1),
+        (
+            event(1, 0x02, 0x52),
+            Some((Act::DiagInt, 1)),
+            Note::Added(1),
+            1,
+        ),
+        (told(Told::Failed), None, Note::Added(1), 1),
         (event(2, 0x02, 0x53), None, Note::Added(2), 2),
         (
             event(1, 0x02, 0x52),
@@ -83,7 +101,7 @@ fn each_entry_has_its_effect(rt: HostRuntime) -> Result<(), Fail> {
             Note::NotAdded(LogFault::Duplicate(1)),
             3,
         ),
-        (CLOSE, None, Note::Nothing, 3),
+        (close(), None, Note::Nothing, 3),
         (
             event(0, 0x02, 0x52),
             None,
@@ -97,13 +115,18 @@ fn each_entry_has_its_effect(rt: HostRuntime) -> Result<(), Fail> {
             3,
         ),
         (event(3, 0xC0, 0x52), None, Note::Added(3), 3),
-        (event(4, 0x02, 0x52), Some(4), Note::Added(4), 3),
-        (DONE, None, Note::Added(4), 3),
+        (
+            event(4, 0x02, 0x52),
+            Some((Act::DiagInt, 4)),
+            Note::Added(4),
+            3,
+        ),
+        (told(Told::Done), None, Note::Added(4), 3),
         (open(8, 0), None, Note::Nothing, 0),
     ];
-    for (entry, id, note, taken) in rows {
+    for (entry, step, note, taken) in rows {
         assert!(rt; go(&mut controller, &entry));
-        assert_eq!(rt; due(&controller), id);
+        assert_eq!(rt; due(&controller), step);
         assert_eq!(rt; controller.note(), note);
         assert_eq!(rt; controller.script().map(|script| script.taken), Some(taken));
     }
@@ -121,22 +144,22 @@ fn each_entry_has_its_effect(rt: HostRuntime) -> Result<(), Fail> {
 fn an_entry_comes_where_it_is_allowed(rt: HostRuntime) -> Result<(), Fail> {
     let mut controller = Controller::fresh(rt.alloc(), &SETTINGS)?;
     let rows = [
-        (DONE, false),
-        (CLOSE, false),
+        (told(Told::Done), false),
+        (close(), false),
         (open(1, 1_000_001), false),
         (open(1, 2), true),
         (open(2, 1), false),
-        (CLOSE, false),
+        (close(), false),
         (event(1, 0x02, 0x52), true),
         (event(2, 0x02, 0x52), false),
-        (CLOSE, false),
-        (DONE, true),
-        (FAILED, false),
+        (close(), false),
+        (told(Told::Done), true),
+        (told(Told::Failed), false),
         (event(2, 0x02, 0x53), true),
         (event(3, 0x02, 0x53), false),
         (open(2, 1), false),
-        (CLOSE, true),
-        (CLOSE, false),
+        (close(), true),
+        (close(), false),
         (event(3, 0x02, 0x53), true),
         (open(2, 1_000_000), true),
     ];
@@ -153,9 +176,9 @@ fn an_entry_has_its_octets(rt: HostRuntime) {
             open(0x0403_0201, 0x0008_0706),
             [0x05, 1, 2, 3, 4, 6, 7, 8, 0].as_slice(),
         ),
-        (CLOSE, [0x06].as_slice()),
-        (DONE, [0x10, 0x00].as_slice()),
-        (FAILED, [0x10, 0x01].as_slice()),
+        (close(), [0x06].as_slice()),
+        (told(Told::Done), [0x10, 0x00].as_slice()),
+        (told(Told::Failed), [0x10, 0x01].as_slice()),
         (
             event(1, 0x02, 0x52),
             [
@@ -164,6 +187,11 @@ fn an_entry_has_its_octets(rt: HostRuntime) {
             ]
             .as_slice(),
         ),
+        (
+            command(&rt, 0x12, &[5, 0x10]),
+            [0x02, 0x04, 0x12, 0x05, 0x10].as_slice(),
+        ),
+        (command(&rt, 0xFF, &[]), [0x02, 0x04, 0xFF].as_slice()),
     ];
     for (entry, octets) in rows {
         assert_eq!(rt; Controller::encode_entry(&entry).as_slice(), octets);
@@ -172,6 +200,10 @@ fn an_entry_has_its_octets(rt: HostRuntime) {
     }
     let others = [
         [].as_slice(),
+        [0x02].as_slice(),
+        [0x02, 0x04].as_slice(),
+        [0x02, 0x40, 0x12].as_slice(),
+        [0x02; 68].as_slice(),
         [0x01; 16].as_slice(),
         [0x01; 18].as_slice(),
         [0x03].as_slice(),
@@ -185,4 +217,112 @@ fn an_entry_has_its_octets(rt: HostRuntime) {
     for octets in others {
         assert!(rt; Controller::decode_entry(octets).is_none());
     }
+}
+
+#[test]
+fn a_command_is_answered(rt: HostRuntime) -> Result<(), Fail> {
+    let mut controller = Controller::fresh(rt.alloc(), &SETTINGS)?;
+    assert_eq!(rt; controller.reply().map(|octets| octets.as_slice()), None);
+    // The command, its data, and the reply to it on the same controller, row by row.
+    let rows = [
+        // the number of filters is read only; 4 is no parameter; no octet
+        (0x12, [0x05, 0x10].as_slice(), [0x82].as_slice()),
+        (0x12, [0x04, 0x01].as_slice(), [0x80].as_slice()),
+        (0x12, [].as_slice(), [0xC7].as_slice()),
+        // set in progress is taken once
+        (0x12, [0x00, 0x01].as_slice(), [0x00].as_slice()),
+        (0x12, [0x00, 0x01].as_slice(), [0x81].as_slice()),
+        (0x13, [0x00, 0, 0].as_slice(), [0x00, 0x11, 0x01].as_slice()),
+        // the number of filters; the revision alone; a filter that isn't there
+        (0x13, [0x05, 0, 0].as_slice(), [0x00, 0x11, 0x10].as_slice()),
+        (0x13, [0x85, 0, 0].as_slice(), [0x00, 0x11].as_slice()),
+        (0x13, [0x06, 0x11, 0].as_slice(), [0xC9].as_slice()),
+        // the first octet of a filter is read back; a refused write changes nothing
+        (0x12, [0x07, 0x10, 0xC0].as_slice(), [0x00].as_slice()),
+        (0x12, [0x07, 0x00, 0x01].as_slice(), [0xC9].as_slice()),
+        (
+            0x13,
+            [0x07, 0x90, 0].as_slice(),
+            [0x00, 0x11, 0x10, 0xC0].as_slice(),
+        ),
+        (0x12, [0x01, 0x00, 0x00].as_slice(), [0xC7].as_slice()),
+        (0x13, [0x01, 0, 0].as_slice(), [0x00, 0x11, 0x01].as_slice()),
+        // no command
+        (0x1F, [].as_slice(), [0xC1].as_slice()),
+    ];
+    for (cmd, payload, reply) in rows {
+        assert!(rt; go(&mut controller, &command(&rt, cmd, payload)));
+        assert_eq!(rt;
+            controller.reply().map(|octets| octets.as_slice()),
+            Some(reply)
+        );
+        assert_eq!(rt; controller.note(), Note::Nothing);
+    }
+    // another item has no reply
+    assert!(rt; go(&mut controller, &event(1, 0x02, 0x53)));
+    assert_eq!(rt; controller.reply().map(|octets| octets.as_slice()), None);
+    Ok(())
+}
+
+#[test]
+fn jobs_run_by_the_tables_at_their_start(rt: HostRuntime) -> Result<(), Fail> {
+    let mut controller = Controller::fresh(rt.alloc(), &SETTINGS)?;
+    // The entry, and the step that is due behind it.
+    let rows = [
+        // a filter that asks for all actions under the mask 3Dh: power cycle, and then the OEM action
+        (command(&rt, 0x12, &[0x02, 0x3D]), None),
+        (command(&rt, 0x12, &filter(1, 0x3F)), None),
+        (event(1, 0x02, 0x52), Some((Act::PowerCycle, 1))),
+        (told(Told::Failed), Some((Act::Oem, 1))),
+        (told(Told::Failed), None),
+        // another filter asks for power down, which comes before reset
+        (command(&rt, 0x12, &[0x02, 0x3F]), None),
+        (command(&rt, 0x12, &filter(1, 0x04)), None),
+        (command(&rt, 0x12, &filter(16, 0x02)), None),
+        (event(2, 0x02, 0x52), Some((Act::PowerDown, 2))),
+        (told(Told::Done), None),
+        // PEF is disabled: records wait, and their jobs run in their order once it is enabled
+        (command(&rt, 0x12, &[0x01, 0x00]), None),
+        (event(3, 0x02, 0x52), None),
+        (event(4, 0x02, 0x53), None),
+        (event(5, 0x02, 0x52), None),
+        (command(&rt, 0x12, &[0x07, 0x10, 0x00]), None),
+        (command(&rt, 0x12, &[0x01, 0x01]), Some((Act::Reset, 3))),
+        (told(Told::Done), Some((Act::Reset, 5))),
+        (told(Told::Done), None),
+        // no filter is enabled
+        (command(&rt, 0x12, &[0x07, 0x01, 0x00]), None),
+        (event(6, 0x02, 0x52), None),
+        (command(&rt, 0x12, &[0x07, 0x01, 0x80]), None),
+    ];
+    for (entry, step) in rows {
+        assert!(rt; go(&mut controller, &entry));
+        assert_eq!(rt; due(&controller), step);
+    }
+    Ok(())
+}
+
+#[test]
+fn records_that_ask_for_nothing_are_passed_in_one_call(rt: HostRuntime) -> Result<(), Fail> {
+    let mut controller = Controller::fresh(rt.alloc(), &SETTINGS)?;
+    assert!(rt; go(&mut controller, &command(&rt, 0x12, &[0x01, 0x00])));
+    for number in 1..=1_023u16 {
+        let [low, high] = number.to_le_bytes();
+        let mut octets = [0u8; 16];
+        octets[0] = low;
+        octets[1] = high;
+        octets[2] = 0x02;
+        assert!(rt; go(&mut controller, &Entry::Item(Item::Event(octets))));
+    }
+    let mut last = [
+        0xFE, 0xFF, 0x02, 0, 0xCA, 0x9A, 0x3B, 0x20, 0x00, 0x04, 0x04, 0x30, 0x01, 0x52, 0x10, 0x20,
+    ];
+    assert!(rt; go(&mut controller, &Entry::Item(Item::Event(last))));
+    last[0] = 0xFD;
+    assert!(rt; go(&mut controller, &Entry::Item(Item::Event(last))));
+    assert_eq!(rt; controller.note(), Note::NotAdded(LogFault::Full));
+    assert_eq!(rt; due(&controller), None);
+    assert!(rt; go(&mut controller, &command(&rt, 0x12, &[0x01, 0x01])));
+    assert_eq!(rt; due(&controller), Some((Act::DiagInt, 0xFFFE)));
+    Ok(())
 }
