@@ -5,3 +5,4 @@ pub mod Beginning
 pub mod Saying
 pub mod Decoding
 pub mod Examples
+pub mod Promises

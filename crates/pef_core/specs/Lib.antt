@@ -12,3 +12,4 @@ pub mod Left
 pub mod View
 pub mod Entries
 pub mod Laws
+pub mod Promises

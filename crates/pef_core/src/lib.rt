@@ -6,6 +6,7 @@ mod entries;
 mod events;
 mod item;
 mod jobs;
+mod laws;
 mod machine;
 mod note;
 mod part;
@@ -15,6 +16,7 @@ mod running;
 
 pub use controller::Controller;
 pub use item::Item;
+pub use laws::{idle_law, job_law, order_law, start_law};
 pub use note::Note;
 
 #[cfg(test)]
