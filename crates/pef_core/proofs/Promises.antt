@@ -1,18 +1,16 @@
 -- The course of a past goes in order, and each job is that of its record by the parameters at its start.
-use Rattle.std.proofs.Common.{◌≡◌, ℕ, zero, suc, ◌+◌, ◌≤◌, Bool, true, false, cond, List, [], ◌∷◌, ◌++◌, length, map, take, drop, Option, Some, None, refl, sym, ◌∙◌, ap, subst, arith, length-append, append-nil, append_assoc, length-take}
-use Rattle.std.specs.Prelude.{not, ◌&&◌, is_some}
-use Rattle.std.proofs.lemmas.Bool.{and_parts}
+use Rattle.std.proofs.Common.{◌≡◌, ℕ, suc, ◌+◌, ◌≤◌, Bool, true, false, cond, List, [], ◌∷◌, ◌++◌, length, take, drop, Option, Some, None, refl, sym, ◌∙◌, ap, arith, length-append, append_assoc, length-take}
+use Rattle.std.specs.Prelude.{not, ◌&&◌}
 use Rattle.std.proofs.lemmas.List.{take-append-drop}
 use Rattle.board_core.specs.declared.step.Act.{Act}
 use Rattle.board_core.specs.declared.step.Told.{Told}
-use Rattle.pef_config.specs.Places.{Tables, our_sizes}
+use Rattle.pef_config.specs.Places.{our_sizes}
 use Rattle.pef_match.specs.Parts.{Parts}
 use Rattle.pef_match.specs.Job.{job}
-use Rattle.pef_core.specs.declared.part.Part.{Part}
 use Rattle.pef_core.specs.declared.part.Part.TheVariants.{Acting, Calling}
 use Rattle.pef_core.specs.Past.{Deed, Logged, Dropped, Replied, Passed, WasTold, log, pef}
-use Rattle.pef_core.specs.Undertaking.{Undertaking, Stage, First, Behind, Finished, part_at, ended, stage_of, stage_after, open_part, is_running}
-use Rattle.pef_core.specs.Course.{Course, begun, is_busy, gone_on, heard_by, heard, moved, is_enabled, begin_job, begin_jobs, next_job, course}
+use Rattle.pef_core.specs.Undertaking.{Undertaking, Stage, First, Behind, Finished, part_at, ended, stage_of, is_running}
+use Rattle.pef_core.specs.Course.{Course, begun, is_busy, heard_by, heard, moved, is_enabled, begin_jobs, next_job, course}
 use Rattle.pef_core.specs.Promises.{down_from, numbers, GoesInOrder, Began, AllBegan}
 
 -- all that is said of a course

@@ -12,7 +12,7 @@ use lan_dest::Lan;
 use pef_commands::Request;
 use pef_config::{Config, Initial};
 use pef_engine::{Entry, Script, may_come, script_behind};
-use pef_match::job_of;
+use pef_match::{Job, job_of};
 use std::alloc::{AllocError, Global};
 
 /// A controller: its parameters, the records that were logged, and how far they are processed.
@@ -33,7 +33,10 @@ pub struct Controller {
 impl Controller {
     ghost use Rattle.board_core.specs.declared.step.Told.{Told};
     ghost use Rattle.std.specs.Prelude.{◌≡◌, ◌↔◌, ◌<◌, ℕ, length, [], ◌∷◌, List, None, IsTrue, IfOk, option_copied};
+    ghost use Rattle.std.specs.Prelude.{option_map, slice_get, IsSome};
     ghost use Rattle.pef_config.specs.Kept.{tables};
+    ghost use Rattle.pef_config.specs.Places.{our_sizes};
+    ghost use Rattle.pef_match.specs.Job.{job};
     ghost use Rattle.pef_engine.specs.Scripts.{MayCome, script_with, script_from, script_of};
     ghost use Rattle.pef_core.specs.Settings.{initial_of};
     ghost use Rattle.pef_core.specs.Deeds.{item_deed, deed, standing};
@@ -189,15 +192,23 @@ impl Controller {
         self.config.control() % 2 == 1
     }
 
+    // The job of the record behind the mark, and none where all are processed.
+    fn waiting(&self) -> Option<Job>
+        ensures job { result ≡ option_map (job our_sizes (tables self.now.config)) (slice_get self.now.log self.now.mark) }
+        ensures within { IsSome result → self.now.mark < 1024 }
+    {
+        let event = self.log.get(self.mark)?;
+        prove!(self.mark < self.log.len());
+        Some(job_of(&self.config, event))
+    }
+
     // Begins the first job with a part among the records behind the mark, and passes over those for which nothing is to be done.
     fn begin_jobs(&mut self)
         requires { self.old.running ≡ None }
         ensures values { shown self.new ≡ begun (shown self.old) }
         ensures script { self.new.script ≡ self.old.script }
     {
-        'records: while let Some(event) = self.log.get(self.mark) {
-            prove!(self.mark < self.log.len());
-            let job = job_of(&self.config, event);
+        'records: while let Some(job) = self.waiting() {
             if let Some(part) = first_part(&job) {
                 self.running = Some(Running {
                     number: self.mark + 1,
