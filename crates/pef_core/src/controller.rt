@@ -6,7 +6,7 @@ use crate::jobs::{first_part, part_behind, step_of};
 use crate::note::Note;
 use crate::replying::reply_to;
 use crate::running::Running;
-use board_core::{Octets, Step};
+use board_core::{Octets, Step, Told};
 use event_record::Log;
 use lan_dest::Lan;
 use pef_commands::Request;
@@ -31,8 +31,7 @@ pub struct Controller {
 }
 
 impl Controller {
-    ghost use Rattle.board_core.specs.declared.step.Told.{Told};
-    ghost use Rattle.std.specs.Prelude.{◌≡◌, ◌↔◌, ◌<◌, ℕ, length, [], ◌∷◌, List, None, IsTrue, IfOk, option_copied};
+    ghost use Rattle.std.specs.Prelude.{◌≡◌, ◌↔◌, ◌<◌, ℕ, length, [], ◌∷◌, List, Some, None, IsTrue, IfOk, option_copied};
     ghost use Rattle.std.specs.Prelude.{option_map, slice_get, IsSome};
     ghost use Rattle.pef_config.specs.Kept.{tables};
     ghost use Rattle.pef_config.specs.Places.{our_sizes};
@@ -122,7 +121,7 @@ impl Controller {
     {
         match entry {
             Entry::Item(item) => self.take(item),
-            Entry::Outcome(_) => self.hear(),
+            Entry::Outcome(told) => self.hear(*told),
         }
     }
 
@@ -155,16 +154,25 @@ impl Controller {
         ensures values { shown self.new ≡ with_deed (item_deed (shown self.old) (Item.Command request.now)) (shown self.old) }
         ensures script { self.new.script ≡ self.old.script }
     {
-        self.reply = Some(reply_to(&mut self.config, &mut self.lan, request));
+        let reply = reply_to(&mut self.config, &mut self.lan, request);
+        self.keep(reply);
+    }
+
+    // Keeps the reply to a command.
+    fn keep(&mut self, reply: Octets)
+        ensures { self.new ≡ record self.old { note = Note.Nothing; reply = Some reply } }
+    {
         self.note = Note::Nothing;
+        self.reply = Some(reply);
     }
 
     // The step of the open part had its outcome: the next part of the job is open, or the job is over. It makes no difference what
     // was told.
-    fn hear(&mut self)
-        ensures values { (told : Told) → shown self.new ≡ with_deed (WasTold told) (shown self.old) }
+    fn hear(&mut self, told: Told)
+        ensures values { shown self.new ≡ with_deed (WasTold told) (shown self.old) }
         ensures script { self.new.script ≡ self.old.script }
     {
+        let _ = told;
         if let Some(running) = &mut self.running {
             match part_behind(running) {
                 Some(part) => running.part = part,

@@ -10,4 +10,4 @@ returns-in-Item-clause-values c =
 
 pub returns-in-Outcome-clause-values : goal.returns-in-Outcome-clause-values
 returns-in-Outcome-clause-values c =
-    subst (λ entry. shown c.hear.new.self ≡ with_deed (deed (shown c.args.self.now) entry) (shown c.args.self.now)) (sym c.in-Outcome.is) (c.hear.ensures.values c.in-Outcome.field-0)
+    subst (λ entry. shown c.hear.new.self ≡ with_deed (deed (shown c.args.self.now) entry) (shown c.args.self.now)) (sym c.in-Outcome.is) c.hear.ensures.values
