@@ -183,6 +183,11 @@ fn an_unacknowledged_alert_makes_all_its_sends(rt: HostRuntime) {
     );
     let resumed = Attempt::resume(false, 3, 2, 2, true, 5);
     assert_eq!(rt; (resumed.due(), resumed.verdict()), (false, None));
-    let late = Attempt::resume(false, 3, 2, 2, true, 6);
+    // The last one is made though the others were done, and the alert ends with its outcome.
+    let mut late = Attempt::resume(false, 3, 2, 2, true, 6);
     assert_eq!(rt; (late.due(), late.verdict()), (true, None));
+    if late.due() {
+        late.told(Told::Failed);
+    }
+    assert_eq!(rt; (late.outcomes(), late.verdict()), (3, Some(true)));
 }

@@ -186,6 +186,14 @@ fn a_destination_is_usable_by_channel_number_type_and_address(rt: HostRuntime) {
             "{channel} {number}"
         );
     }
+    // The worked destination: acknowledged, three ticks between transmissions, two retries.
+    let worked = lan.destination(&PORTS, 1, 1);
+    assert_eq!(rt;
+        worked
+            .as_ref()
+            .map(|to| (to.acknowledged, to.wait, to.retries)),
+        Some((true, 3, 2))
+    );
     let mut lan = set_up(&rt);
     assert_eq!(rt; lan.set(1, 16, &[0x41; 18]), 0x00);
     let whole = lan.destination(&PORTS, 1, 1);
