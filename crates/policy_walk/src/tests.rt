@@ -180,8 +180,8 @@ fn compare_all(rt: &impl Abort, stops: &[Stop]) {
     }
 }
 
-/// All sets of up to four stops. Which stops share a channel, and which a type, is all that counts of these: so each way to
-/// share them is tried under two namings.
+/// All sets of up to four stops. Of channels and types only counts which stops share them (`proofs/Renamed.antt`): so each
+/// way to share them is tried, under two namings.
 #[test]
 fn all_walks_over_four_stops_are_the_slow_ones(rt: HostRuntime) {
     assert_eq!(rt; Walk::start(&[]).current(), None);
