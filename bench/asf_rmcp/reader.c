@@ -1,4 +1,5 @@
-/* Reads a pong and the frame of a LAN message many times: the layouts of crates/asf_rmcp, checked in the same order. */
+/* Reads frames from a table, each as a packet and as a LAN message, and prints a sum of all that was read: the layouts of
+ * crates/asf_rmcp, checked in the same order. */
 #include <stdint.h>
 #include <stdio.h>
 #include <stdlib.h>
@@ -33,6 +34,7 @@ __attribute__((noinline, noclone)) static int packet_read(const uint8_t *octets,
         if (length > 4) return refuse(f, TRAILING, 4);
         p->kind = ACK;
         p->other = octets[3] & 0x7F;
+        p->entities = 0;
         return 1;
     }
     if (octets[3] == 7) {
@@ -90,33 +92,93 @@ __attribute__((noinline, noclone)) static int lan_read(const uint8_t *octets, si
     return 1;
 }
 
+enum { FRAMES = 128 };
+struct frame { uint8_t octets[96]; size_t length; };
+
+static uint32_t next(uint32_t number) { return number * 1664525u + 1013904223u; }
+
+static uint8_t rest_of(const uint8_t *octets, size_t length)
+{
+    uint8_t sum = 0;
+    for (size_t i = 0; i < length; i++) sum -= octets[i];
+    return sum;
+}
+
+static struct frame lan(uint32_t start)
+{
+    struct frame f = {{0}, 0};
+    uint32_t n = 7 + (start >> 16) % 65, number = start;
+    for (uint32_t i = 14; i < 14 + n; i++) {
+        number = next(number);
+        f.octets[i] = (uint8_t)(number >> 24);
+    }
+    f.octets[0] = 0x06;
+    f.octets[2] = 0xFF;
+    f.octets[3] = 0x07;
+    f.octets[13] = (uint8_t)n;
+    f.octets[16] = rest_of(f.octets + 14, 2);
+    f.octets[13 + n] = rest_of(f.octets + 17, n - 4);
+    f.length = 14 + n;
+    return f;
+}
+
+static struct frame asf(uint32_t start, uint8_t kind)
+{
+    struct frame f = {{0}, 0};
+    uint32_t number = start;
+    for (int i = 0; i < 28; i++) {
+        number = next(number);
+        f.octets[i] = (uint8_t)(number >> 24);
+    }
+    f.octets[0] = 0x06;
+    f.octets[3] = 0x06;
+    memcpy(f.octets + 4, enterprise, 4);
+    f.octets[8] = kind;
+    f.octets[11] = kind == 0x40 ? 16 : 0;
+    f.length = kind == 0x40 ? 28 : 12;
+    return f;
+}
+
+/* six of eight are LAN messages, then a ping and a pong; every fifth has one octet that is changed */
+static struct frame frame(uint32_t place, uint32_t start)
+{
+    struct frame f = place % 8 == 6 ? asf(start, 0x80) : place % 8 == 7 ? asf(start, 0x40) : lan(start);
+    if (place % 5 == 4) f.octets[(start >> 8) % f.length] ^= 0x01;
+    return f;
+}
+
+static uint64_t fault(const struct fault *f)
+{
+    uint64_t why = f->why;
+    if (f->why == CHECKSUM) why += (uint8_t)(f->want ^ f->have);
+    return why + f->at % 1024;
+}
+
 int main(int argc, char **argv)
 {
-    uint8_t frame[33] = {
-        0x06, 0x00, 0xFF, 0x07, 0x00, 0x00, 0x00, 0x00, 0x00, 0x00, 0x00, 0x00, 0x00, 0x13, 0x20, 0x10,
-        0xD0, 0x81, 0x04, 0x17, 0x01, 0x00, 0x80, 0xED, 0xEF, 0x06, 0x20, 0x20, 0x30, 0x52, 0x10, 0x20,
-        0x0F,
-    };
-    uint8_t pong[28] = {
-        0x06, 0x00, 0xFF, 0x06, 0x00, 0x00, 0x11, 0xBE, 0x40, 0x00, 0x00, 0x10, 0x00, 0x00, 0x11, 0xBE,
-        0x00, 0x00, 0x00, 0x00, 0x81,
-    };
-    uint32_t rounds = argc > 1 ? strtoul(argv[1], 0, 10) : 1;
+    static struct frame frames[FRAMES];
+    uint32_t rounds = argc > 1 ? (uint32_t)strtoul(argv[1], 0, 10) : 1, number = rounds;
+    for (uint32_t place = 0; place < FRAMES; place++) {
+        number = next(number);
+        frames[place] = frame(place, number);
+    }
     uint64_t sum = 0;
-    for (uint32_t i = 0; i < rounds; i++) {
-        struct packet p;
-        struct message m;
-        struct fault f;
-        uint8_t turn = i % 128;
-        frame[18] = turn;
-        frame[32] = (uint8_t)(0x13 - turn) ^ (turn % 4 / 3);
-        pong[9] = turn;
-        if (packet_read(pong, 28, &p, &f))
-            sum += p.kind == IPMI ? p.sequence : p.sequence ^ p.other ^ p.entities;
-        if (lan_read(frame, 33, &m, &f))
-            sum += m.seq_lun + m.payload[m.length - 1] + m.length;
-        else
-            sum += f.at;
+    for (uint32_t round = 0; round < rounds; round++) {
+        for (size_t i = 0; i < FRAMES; i++) {
+            struct packet p;
+            struct message m;
+            struct fault f = {0};
+            uint64_t packet, message;
+            if (packet_read(frames[i].octets, frames[i].length, &p, &f))
+                packet = p.kind == IPMI ? p.sequence : (uint8_t)(p.sequence ^ p.other ^ p.entities);
+            else
+                packet = fault(&f);
+            if (lan_read(frames[i].octets, frames[i].length, &m, &f))
+                message = (uint8_t)(m.to ^ m.netfn_lun ^ m.sender ^ m.seq_lun ^ m.cmd ^ (m.length ? m.payload[sum % m.length] : 0)) + m.length;
+            else
+                message = fault(&f);
+            sum = sum * 31 + packet + message;
+        }
     }
     printf("%llu\n", (unsigned long long)sum);
     return 0;

@@ -37,6 +37,7 @@ impl Strings {
         ensures refused { result_err result ≡ block_fault 8 4 number block }
         ensures replaced { OnOk result (blocks self.new ≡ slice_set (blocks self.old) (block_place 4 number block) (filled 16 part.now)) }
         ensures keys { keys self.new ≡ keys self.old }
+        ensures count { length (blocks self.new) ≡ 36 }
         ensures kept { OnErr result (self.new ≡ self.old) }
     {
         let (place, block) = places_of(number, block)?;
@@ -59,6 +60,7 @@ impl Strings {
         ensures refused { result_err result ≡ number_fault 8 number }
         ensures replaced { OnOk result (keys self.new ≡ slice_set (keys self.old) number (filter, set)) }
         ensures blocks { blocks self.new ≡ blocks self.old }
+        ensures count { length (keys self.new) ≡ 9 }
         ensures kept { OnErr result (self.new ≡ self.old) }
     {
         let place = place_of(number)?;

@@ -67,8 +67,8 @@ fn compare(rt: &impl Abort, attempt: &Attempt, slow: &Slow) {
     assert_eq!(rt; attempt.ticks(), slow.ticks);
 }
 
-/// Goes on for 40 ticks: each transmission that is due is told so by a bit of `told`, and the acknowledgement comes after
-/// the tick `acked`.
+/// Goes on for 40 ticks: bit n of `told` is 1 where transmission n, counted from 0, is done, and the acknowledgement comes
+/// after the tick `acked`.
 fn run(rt: &impl Abort, to: &Destination, told: u32, acked: u16) {
     if to.wait == 0 || to.wait > 256 || to.retries > 7 {
         return;
@@ -111,14 +111,18 @@ fn run(rt: &impl Abort, to: &Destination, told: u32, acked: u16) {
     }
 }
 
+/// All waits of 1 to 4 ticks, all retries, all outcomes of the transmissions that there are at most, and an acknowledgement
+/// after each tick, or none.
 #[test]
 fn all_small_attempts_are_the_slow_ones(rt: HostRuntime) {
     for wait in 1..=4 {
         for retries in 0..=7 {
-            for told in [0x00, 0x01, 0x02, 0x55, 0x80, 0xFF] {
-                run(&rt, &destination(false, wait, retries), told, 2);
-                for acked in 0..=40 {
-                    run(&rt, &destination(true, wait, retries), told, acked);
+            let to = destination(true, wait, retries);
+            let other = destination(false, wait, retries);
+            for told in 0..2_u32 << retries {
+                for acked in 0..=41 {
+                    run(&rt, &to, told, acked);
+                    run(&rt, &other, told, acked);
                 }
             }
         }
@@ -179,6 +183,11 @@ fn an_unacknowledged_alert_makes_all_its_sends(rt: HostRuntime) {
     );
     let resumed = Attempt::resume(false, 3, 2, 2, true, 5);
     assert_eq!(rt; (resumed.due(), resumed.verdict()), (false, None));
-    let late = Attempt::resume(false, 3, 2, 2, true, 6);
+    // The last one is made though the others were done, and the alert ends with its outcome.
+    let mut late = Attempt::resume(false, 3, 2, 2, true, 6);
     assert_eq!(rt; (late.due(), late.verdict()), (true, None));
+    if late.due() {
+        late.told(Told::Failed);
+    }
+    assert_eq!(rt; (late.outcomes(), late.verdict()), (3, Some(true)));
 }

@@ -27,10 +27,11 @@ fn set_up(rt: &impl Abort) -> Lan {
 fn set_checks_in_order(rt: HostRuntime) {
     let long = [0x41; 19];
     // Channel, parameter, payload, code; where two checks refuse, the first of them answers.
-    let rows: [(u8, u8, &[u8], u8); 25] = [
+    let rows: [(u8, u8, &[u8], u8); 27] = [
         (0, 18, &KIND, 0xCC),
         (3, 18, &KIND, 0xCC),
         (255, 15, &[], 0xCC),
+        (0, 17, &[], 0xCC),
         (1, 15, &KIND, 0x80),
         (1, 20, &KIND, 0x80),
         (2, 0, &[], 0x80),
@@ -48,6 +49,7 @@ fn set_checks_in_order(rt: HostRuntime) {
         (1, 18, &[0x04, 0x80, 0x02, 0x02], 0x00),
         (2, 18, &[0xF4, 0x80, 0x02, 0x02], 0x00),
         (1, 19, &ADDRESS[..12], 0xC7),
+        (1, 19, &[0x05, 0x10], 0xC7),
         (1, 19, &[0x05, 0x10, 0, 10, 0, 0, 9, 0, 0, 0, 0, 0, 0], 0xC9),
         (1, 19, &[0x04, 0x10, 0, 10, 0, 0, 9, 0, 0, 0, 0, 0, 0], 0xCC),
         (1, 19, &[0x04, 0xF0, 0, 10, 0, 0, 9, 0, 0, 0, 0, 0, 0], 0xCC),
@@ -186,6 +188,14 @@ fn a_destination_is_usable_by_channel_number_type_and_address(rt: HostRuntime) {
             "{channel} {number}"
         );
     }
+    // The worked destination: acknowledged, three ticks between transmissions, two retries.
+    let worked = lan.destination(&PORTS, 1, 1);
+    assert_eq!(rt;
+        worked
+            .as_ref()
+            .map(|to| (to.acknowledged, to.wait, to.retries)),
+        Some((true, 3, 2))
+    );
     let mut lan = set_up(&rt);
     assert_eq!(rt; lan.set(1, 16, &[0x41; 18]), 0x00);
     let whole = lan.destination(&PORTS, 1, 1);

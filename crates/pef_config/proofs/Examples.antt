@@ -1,7 +1,7 @@
 -- Worked examples of the definitions: values after writes, codes and replies.
-use Rattle.std.proofs.Common.{◌≡◌, ℕ, true, false, List, [], ◌∷◌, replicate, refl}
+use Rattle.std.proofs.Common.{◌≡◌, ℕ, true, false, List, [], ◌∷◌, ◌++◌, replicate, Some, None, refl}
 use Rattle.pef_config.specs.declared.initial.Initial.{Initial}
-use Rattle.pef_config.specs.Places.{our_sizes, SetInProgress, Control, filter_at, Tables, Write, write, value}
+use Rattle.pef_config.specs.Places.{our_sizes, SetInProgress, Control, Policy, StringKey, Block, filter_at, guid_in, Tables, Write, write, value}
 use Rattle.pef_config.specs.Rows.{set_code, get_reply}
 
 abbrev filter_1 : List ℕ
@@ -52,3 +52,41 @@ pub replies :
     × (get_reply our_sizes (after []) 7 false 0x81 0x00 ≡ 0x00 ∷ 0x11 ∷ 0x01 ∷ 0x80 ∷ [])
     × (get_reply our_sizes (after (first ∷ [])) 6 false 0x02 0x00 ≡ 0x00 ∷ 0x11 ∷ 0x02 ∷ 0x20 ∷ replicate 19 0)
 replies = (refl, refl, refl, refl, refl, refl)
+
+-- a block is a place of its own, filled up with 00h
+abbrev fan : List ℕ
+fan = 0x66 ∷ 0x61 ∷ 0x6E ∷ []
+
+abbrev strings : Tables
+strings = after (write 13 (0x01 ∷ 0x02 ∷ fan) ∷ write 13 (0x81 ∷ 0x02 ∷ replicate 16 0x41) ∷ write 12 (0x01 ∷ 0x01 ∷ 0x82 ∷ []) ∷ [])
+
+pub blocks :
+    (strings (Block 1 2) ≡ fan ++ replicate 13 0) × (strings (Block 1 1) ≡ replicate 16 0) × (strings (Block 0 4) ≡ replicate 16 0)
+    × (strings (Block 9 1) ≡ []) × (strings (Block 1 0) ≡ []) × (strings (Block 1 5) ≡ [])
+    × (strings (StringKey 1) ≡ 0x01 ∷ 0x82 ∷ []) × (strings (StringKey 8) ≡ 0x00 ∷ 0x00 ∷ []) × (strings (StringKey 9) ≡ [])
+blocks = (refl, refl, refl, refl, refl, refl, refl, refl, refl)
+
+abbrev to_be_used : Write
+to_be_used = write 10 (0x01 ∷ replicate 16 0xA5)
+
+pub entries_and_guid :
+    (after (write 9 (0x90 ∷ 0x18 ∷ 0x11 ∷ 0x00 ∷ []) ∷ []) (Policy 16) ≡ 0x18 ∷ 0x11 ∷ 0x00 ∷ []) × (after [] (Policy 16) ≡ replicate 3 0) × (after [] (Policy 0) ≡ []) × (after [] (Policy 17) ≡ [])
+    × (guid_in (after []) ≡ None) × (guid_in (after (to_be_used ∷ [])) ≡ Some (replicate 16 0xA5))
+    × (guid_in (after (write 10 (0xFE ∷ replicate 16 0xA5) ∷ to_be_used ∷ [])) ≡ None)
+entries_and_guid = (refl, refl, refl, refl, refl, refl, refl)
+
+-- read only, length, selector, block
+pub more_codes :
+    (set_code our_sizes (after []) 8 [] ≡ 0x82) × (set_code our_sizes (after []) 11 (0x08 ∷ []) ≡ 0x82) × (set_code our_sizes (after []) 9 (0x11 ∷ []) ≡ 0xC7)
+    × (set_code our_sizes (after []) 13 (0x01 ∷ 0x01 ∷ []) ≡ 0xC7) × (set_code our_sizes (after []) 13 (0x01 ∷ 0x01 ∷ replicate 17 0) ≡ 0xC7)
+    × (set_code our_sizes (after []) 9 (replicate 4 0) ≡ 0xC9) × (set_code our_sizes (after []) 12 (replicate 3 9) ≡ 0xC9) × (set_code our_sizes (after []) 13 (replicate 3 5) ≡ 0xC9)
+    × (set_code our_sizes (after []) 13 (replicate 3 4) ≡ 0x00) × (set_code our_sizes (after []) 10 (replicate 17 0) ≡ 0x00) × (set_code our_sizes (after []) 14 [] ≡ 0x80)
+more_codes = (refl, refl, refl, refl, refl, refl, refl, refl, refl, refl, refl)
+
+pub more_replies :
+    (get_reply our_sizes strings 13 false 0x81 0x02 ≡ 0x00 ∷ 0x11 ∷ 0x01 ∷ 0x02 ∷ fan ++ replicate 13 0)
+    × (get_reply our_sizes strings 13 true 0x09 0x05 ≡ 0x00 ∷ 0x11 ∷ []) × (get_reply our_sizes strings 13 false 0x01 0x05 ≡ 0xC9 ∷ [])
+    × (get_reply our_sizes strings 12 false 0x01 0x00 ≡ 0x00 ∷ 0x11 ∷ 0x01 ∷ 0x01 ∷ 0x82 ∷ []) × (get_reply our_sizes strings 12 false 0x09 0x00 ≡ 0xC9 ∷ [])
+    × (get_reply our_sizes strings 8 false 0x7F 0xFF ≡ 0x00 ∷ 0x11 ∷ 0x10 ∷ []) × (get_reply our_sizes strings 11 false 0x7F 0xFF ≡ 0x00 ∷ 0x11 ∷ 0x08 ∷ [])
+    × (get_reply our_sizes strings 9 false 0x10 0x00 ≡ 0x00 ∷ 0x11 ∷ 0x10 ∷ replicate 3 0) × (get_reply our_sizes strings 10 false 0x00 0x00 ≡ 0x00 ∷ 0x11 ∷ replicate 17 0)
+more_replies = (refl, refl, refl, refl, refl, refl, refl, refl, refl)

@@ -1,18 +1,17 @@
 -- The table of filters in which filter 1 alone was set.
-use Rattle.std.proofs.Common.{◌≡◌, ◌≢◌, ℕ, zero, suc, ◌-◌, ◌<◌, ◌≤◌, ◌∙◌, ◌⊎◌, ap, sym, subst, inl, inr, refl, true, false, not, cond, List, [], replicate, take, drop, get_or, arith, eqb}
+use Rattle.std.proofs.Common.{◌≡◌, ◌≢◌, ℕ, zero, suc, ◌-◌, ◌<◌, ◌≤◌, ◌∙◌, ◌⊎◌, ap, sym, subst, inl, inr, refl, true, false, not, cond, List, [], replicate, get_or, arith, eqb}
 use Rattle.std.proofs.lemmas.Bool.{cases_eq, cases_lt}
 use Rattle.std.proofs.lemmas.Bool.Decides.{nat_tests}
 use Rattle.std.proofs.lemmas.List.{get_or-replicate, get_or_past}
 use Rattle.filter_table.specs.Filters.{is_number, numbered, no_filters, Replaces}
 use Rattle.pef_config.proofs.Numbered.{numbered-one_on}
 use Rattle.pef_config.specs.declared.initial.Initial.{Initial}
-use Rattle.pef_config.specs.Kept.{tables}
-use Rattle.pef_config.specs.Places.{Place, SetInProgress, Control, Actions, Delay, FirstOctet, OtherOctets, our_sizes, initial_filter, initial_value}
+use Rattle.pef_config.specs.Places.{our_sizes, initial_filter}
 
-is_number-within : (n : ℕ) → 1 ≤ n → n ≤ 16 → is_number 16 n ≡ true
+pub is_number-within : (n : ℕ) → 1 ≤ n → n ≤ 16 → is_number 16 n ≡ true
 is_number-within n low high = grind (arith, nat_tests)
 
-is_number-past : (n : ℕ) → 16 < n → is_number 16 n ≡ false
+pub is_number-past : (n : ℕ) → 16 < n → is_number 16 n ≡ false
 is_number-past n high = grind (arith, nat_tests)
 
 not_one : (n : ℕ) → n ≢ 1 → eqb n 1 ≡ false
@@ -42,12 +41,3 @@ module _ (initial : Initial) (filters : List (List ℕ)) (replaced : Replaces (n
       by_cases : (suc n ≡ 1) ⊎ (suc n ≢ 1) → numbered filters (suc n) ≡ initial_filter our_sizes initial (suc n)
       by_cases (inl one) = let P : ℕ → Type 0 = λ m. numbered filters m ≡ initial_filter our_sizes initial m in subst P (sym one) replaced.placed
       by_cases (inr other) = other_filter (suc n) (omega arith) other
-
-  -- the parameters whose table of filters that is hold their initial values
-  pub initial_tables : (place : Place) → tables (record { set_in_progress = 0; control = initial.control; actions = initial.actions; delay = initial.delay; filters = filters }) place ≡ initial_value our_sizes initial place
-  initial_tables SetInProgress = refl
-  initial_tables Control = refl
-  initial_tables Actions = refl
-  initial_tables Delay = refl
-  initial_tables (FirstOctet n) = ap (take 1) (initial_filters n)
-  initial_tables (OtherOctets n) = ap (drop 1) (initial_filters n)

@@ -1,3 +1,5 @@
 pub mod Numbered
 pub mod InitialFilters
+pub mod InitialTables
+pub mod Written
 pub mod Examples

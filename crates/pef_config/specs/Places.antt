@@ -1,20 +1,26 @@
 -- Where the values of the PEF configuration parameters stand, and what stands there: what the last accepted write put there, or the
 -- initial value. IPMI 2.0, section 30.3 and table 30-7. The writes are a list, the latest first. That reserved bits are kept and read back, and
 -- which values are initial, is this project's rule.
-use Rattle.std.specs.Prelude.{◌≡◌, ℕ, ◌%◌, Bool, true, false, not, ◌&&◌, ◌||◌, ◌==◌, List, [], ◌∷◌, ◌++◌, take, drop, replicate, Option, Some, None, if◌then◌else◌}
+use Rattle.std.specs.Prelude.{◌≡◌, ℕ, ◌%◌, Bool, true, false, not, ◌&&◌, ◌||◌, ◌==◌, nat_le, List, [], ◌∷◌, ◌++◌, take, drop, replicate, Option, Some, None, if◌then◌else◌}
+use Rattle.std.specs.Int.{bit_at}
+use Rattle.alert_strings.specs.Table.{filled}
 use Rattle.event_record.specs.Fields.{octet}
 use Rattle.filter_table.specs.Filters.{is_number}
 use Rattle.pef_config.specs.declared.initial.Initial.{Initial}
 
--- how many entries the tables have
+-- how many entries the tables have: filters, policy entries, strings beside string 0, and blocks of a string
 pub record Sizes : Type 0 where
   pub filters : ℕ
+  pub policies : ℕ
+  pub strings : ℕ
+  pub blocks : ℕ
 
 -- the tables of this product
 abbrev pub our_sizes : Sizes
-our_sizes = record { filters = 16 }
+our_sizes = record { filters = 16; policies = 16; strings = 8; blocks = 4 }
 
--- Parameters 0 to 3, and of each filter the first octet (parameter 7) and octets 2 to 20, which are the rest of parameter 6.
+-- Parameters 0 to 3, and of each filter the first octet (parameter 7) and octets 2 to 20, which are the rest of parameter 6; each policy
+-- entry (parameter 9), the GUID (10), each string's key (12), and each block of each string (13).
 pub data Place : Type 0 where
   SetInProgress : Place
   Control : Place
@@ -22,6 +28,10 @@ pub data Place : Type 0 where
   Delay : Place
   FirstOctet : ℕ → Place
   OtherOctets : ℕ → Place
+  Policy : ℕ → Place
+  Guid : Place
+  StringKey : ℕ → Place
+  Block : ℕ → ℕ → Place
 
 -- what stands at each place
 abbrev pub Tables : Type 0
@@ -31,12 +41,26 @@ Tables = Place → List ℕ
 abbrev pub filter_at : Tables → ℕ → List ℕ
 filter_at tables n = tables (FirstOctet n) ++ tables (OtherOctets n)
 
+-- the GUID, where bit 0 of the first octet says that it is to be used
+abbrev pub guid_in : Tables → Option (List ℕ)
+guid_in tables = if bit_at (octet 1 (tables Guid)) 0 == 1 then Some (drop 1 (tables Guid)) else None
+
 -- filter 1 is given, the others are zeros
 abbrev pub initial_filter : Sizes → Initial → ℕ → List ℕ
 initial_filter sizes initial n =
     if not (is_number sizes.filters n) then []
     else if n == 1 then initial.filter
     else replicate 20 0
+
+-- strings count from 0, and their blocks from 1
+abbrev pub is_string : Sizes → ℕ → Bool
+is_string sizes n = nat_le n sizes.strings
+
+abbrev pub is_block : Sizes → ℕ → ℕ → Bool
+is_block sizes n block = is_string sizes n && is_number sizes.blocks block
+
+abbrev pub zeros_if : Bool → ℕ → List ℕ
+zeros_if holds count = if holds then replicate count 0 else []
 
 abbrev pub initial_value : Sizes → Initial → Tables
 initial_value sizes initial SetInProgress = 0 ∷ []
@@ -45,6 +69,10 @@ initial_value sizes initial Actions = initial.actions ∷ []
 initial_value sizes initial Delay = initial.delay ∷ []
 initial_value sizes initial (FirstOctet n) = take 1 (initial_filter sizes initial n)
 initial_value sizes initial (OtherOctets n) = drop 1 (initial_filter sizes initial n)
+initial_value sizes initial (Policy n) = zeros_if (is_number sizes.policies n) 3
+initial_value sizes initial Guid = replicate 17 0
+initial_value sizes initial (StringKey n) = zeros_if (is_string sizes n) 2
+initial_value sizes initial (Block n block) = zeros_if (is_block sizes n block) 16
 
 -- a write of a parameter: the octets behind the parameter octet
 pub record Write : Type 0 where
@@ -62,11 +90,15 @@ selector octet = octet % 128
 abbrev pub selects : List ℕ → ℕ → Bool
 selects payload n = selector (octet 1 payload) == n
 
+-- the second octet of the payload names this block
+abbrev pub selects_block : List ℕ → ℕ → ℕ → Bool
+selects_block payload n block = selects payload n && (octet 2 payload == block)
+
 abbrev pub only_if : Bool → List ℕ → Option (List ℕ)
 only_if true octets = Some octets
 only_if false octets = None
 
--- What a write puts at a place. Parameters 6 and 7 both write the first octet of a filter.
+-- What a write puts at a place. Parameters 6 and 7 both write the first octet of a filter. A block is written whole, filled up with 00h.
 abbrev pub written : Write → Place → Option (List ℕ)
 written w SetInProgress = only_if (w.parameter == 0) w.payload
 written w Control = only_if (w.parameter == 1) w.payload
@@ -74,6 +106,10 @@ written w Actions = only_if (w.parameter == 2) w.payload
 written w Delay = only_if (w.parameter == 3) w.payload
 written w (FirstOctet n) = only_if (((w.parameter == 6) || (w.parameter == 7)) && selects w.payload n) (take 1 (drop 1 w.payload))
 written w (OtherOctets n) = only_if ((w.parameter == 6) && selects w.payload n) (drop 2 w.payload)
+written w (Policy n) = only_if ((w.parameter == 9) && selects w.payload n) (drop 1 w.payload)
+written w Guid = only_if (w.parameter == 10) w.payload
+written w (StringKey n) = only_if ((w.parameter == 12) && selects w.payload n) (drop 1 w.payload)
+written w (Block n block) = only_if ((w.parameter == 13) && selects_block w.payload n block) (filled 16 (drop 2 w.payload))
 
 abbrev pub last_or : List ℕ → Option (List ℕ) → List ℕ
 last_or earlier None = earlier

@@ -1,15 +1,20 @@
 //! The parameters.
 use crate::initial::Initial;
 use crate::parameter::{
-    ACTIONS, CONTROL, DELAY, FILTER, FILTER_COUNT, FILTERS, FIRST_OCTET, NO_PARAMETER, READ_ONLY,
-    SET_IN_PROGRESS,
+    ACTIONS, CONTROL, DELAY, FILTER, FILTER_COUNT, FILTERS, FIRST_OCTET, GUID, NO_PARAMETER,
+    POLICIES, POLICY, POLICY_COUNT, READ_ONLY, SET_IN_PROGRESS, STRING, STRING_COUNT, STRING_KEY,
+    STRINGS,
 };
+use crate::policies::{policy_reply, put_policy};
 use crate::reading::{filter_reply, first_octet_reply, is_parameter, refusal, reply_with};
-use crate::writing::{put_filter, put_first_octet, put_octet, put_progress};
+use crate::strings::{block_reply, key_reply, put_block, put_key};
+use crate::writing::{put_filter, put_first_octet, put_guid, put_octet, put_progress};
+use alert_strings::Strings;
 use board_core::Octets;
 use filter_table::{Filter, Filters};
+use policy_table::Policies;
 
-/// The PEF configuration parameters 0 to 3 and 5 to 7 (IPMI 2.0, section 30.3).
+/// The PEF configuration parameters 0 to 3 and 5 to 13 (IPMI 2.0, section 30.3).
 #[derive(Drop)]
 pub struct Config {
     set_in_progress: u8,
@@ -17,15 +22,18 @@ pub struct Config {
     actions: u8,
     delay: u8,
     filters: Filters,
+    policies: Policies,
+    guid: [u8; 17],
+    strings: Strings,
 }
 
 impl Config {
     ghost use Rattle.std.specs.Prelude.{◌≡◌, ◌≢◌, ℕ, List, [], ◌∷◌};
     ghost use Rattle.filter_table.specs.Filters.{numbered};
     ghost use Rattle.pef_config.specs.declared.initial.Initial.{Initial};
-    ghost use Rattle.pef_config.specs.Places.{our_sizes, Control, Actions, Delay, filter_at, Write, write, with_write, Holds, PutsAt};
+    ghost use Rattle.pef_config.specs.Places.{our_sizes, Control, Actions, Delay, Policy, StringKey, Block, filter_at, guid_in, Write, write, with_write, Holds, PutsAt};
     ghost use Rattle.pef_config.specs.Rows.{set_code, get_reply};
-    ghost use Rattle.pef_config.specs.Kept.{tables};
+    ghost use Rattle.pef_config.specs.Kept.{tables, key_at, block_at};
 
     /// The parameters as nobody has written them yet.
     pub fn new(initial: &Initial) -> Config
@@ -40,6 +48,9 @@ impl Config {
             actions: initial.actions,
             delay: initial.delay,
             filters,
+            policies: Policies::new(),
+            guid: [0; 17],
+            strings: Strings::new(),
         }
     }
 
@@ -58,19 +69,22 @@ impl Config {
             CONTROL => put_octet(&mut self.control, payload),
             ACTIONS => put_octet(&mut self.actions, payload),
             DELAY => put_octet(&mut self.delay, payload),
-            FILTER_COUNT => READ_ONLY,
+            FILTER_COUNT | POLICY_COUNT | STRING_COUNT => READ_ONLY,
             FILTER => put_filter(&mut self.filters, payload),
             FIRST_OCTET => put_first_octet(&mut self.filters, payload),
+            POLICY => put_policy(&mut self.policies, payload),
+            GUID => put_guid(&mut self.guid, payload),
+            STRING_KEY => put_key(&mut self.strings, payload),
+            STRING => put_block(&mut self.strings, payload),
             _ => NO_PARAMETER,
         }
     }
 
     /// The reply to a read of a parameter, from the completion code on: its revision, unless that alone is asked for the
-    /// selector of an entry, and the value. The selector counts by its bits 6:0; the block has no effect yet.
+    /// selector of an entry, and the value. The selector counts by its bits 6:0; the block is that of a string.
     pub fn get(&self, parameter: u8, revision_only: bool, set: u8, block: u8) -> Octets
         ensures { result ≡ get_reply our_sizes (tables self.now) parameter revision_only set block }
     {
-        let _ = block;
         if !is_parameter(parameter) {
             return refusal(NO_PARAMETER);
         }
@@ -84,7 +98,13 @@ impl Config {
             DELAY => reply_with(&[self.delay]),
             FILTER_COUNT => reply_with(&[FILTERS]),
             FILTER => filter_reply(&self.filters, set % 128),
-            _ => first_octet_reply(&self.filters, set % 128),
+            FIRST_OCTET => first_octet_reply(&self.filters, set % 128),
+            POLICY_COUNT => reply_with(&[POLICIES]),
+            POLICY => policy_reply(&self.policies, set % 128),
+            GUID => reply_with(&self.guid),
+            STRING_COUNT => reply_with(&[STRINGS]),
+            STRING_KEY => key_reply(&self.strings, set % 128),
+            _ => block_reply(&self.strings, set % 128, block),
         }
     }
 
@@ -114,5 +134,32 @@ impl Config {
         ensures { (n : ℕ) → numbered result.now n ≡ filter_at (tables self.now) n }
     {
         &self.filters
+    }
+
+    /// The alert policy entries, by parameter 9.
+    pub fn policies(&self) -> &Policies
+        ensures { (n : ℕ) → numbered result.now n ≡ tables self.now (Policy n) }
+    {
+        &self.policies
+    }
+
+    /// The system GUID of parameter 10, where its bit 0 says that it is to be used.
+    pub fn guid(&self) -> Option<[u8; 16]>
+        ensures { result ≡ guid_in (tables self.now) }
+    {
+        if self.guid[0] % 2 == 0 {
+            return None;
+        }
+        let mut guid = [0; 16];
+        guid.copy_from_slice(&self.guid[1..]);
+        Some(guid)
+    }
+
+    /// The alert strings and their keys, by parameters 12 and 13.
+    pub fn strings(&self) -> &Strings
+        ensures keys { (n : ℕ) → key_at result.now n ≡ tables self.now (StringKey n) }
+        ensures blocks { (n block : ℕ) → block_at result.now n block ≡ tables self.now (Block n block) }
+    {
+        &self.strings
     }
 }

@@ -3,10 +3,7 @@ ghost use Rattle.std.specs.Prelude.{◌≡◌, ◌+◌, ◌≤◌, not, [], ◌�
 ghost use Rattle.filter_table.specs.Filters.{is_number, numbered};
 ghost use Rattle.pef_config.specs.Rows.{answer_if, is_parameter as is_parameter_of};
 
-use crate::parameter::{
-    ACTIONS, CONTROL, DELAY, DONE, FILTER, FILTER_COUNT, FIRST_OCTET, REVISION, SELECTOR,
-    SET_IN_PROGRESS,
-};
+use crate::parameter::{DELAY, DONE, FILTER_COUNT, REVISION, SELECTOR, SET_IN_PROGRESS, STRING};
 use board_core::Octets;
 use filter_table::Filters;
 
@@ -14,10 +11,7 @@ use filter_table::Filters;
 pub(crate) fn is_parameter(parameter: u8) -> bool
     ensures { result ≡ is_parameter_of parameter }
 {
-    matches!(
-        parameter,
-        SET_IN_PROGRESS | CONTROL | ACTIONS | DELAY | FILTER_COUNT | FILTER | FIRST_OCTET
-    )
+    matches!(parameter, SET_IN_PROGRESS..=DELAY | FILTER_COUNT..=STRING)
 }
 
 /// A completion code alone.
@@ -41,7 +35,7 @@ pub(crate) fn reply_with(value: &[u8]) -> Octets
 }
 
 /// An entry of a table: its selector, and its value.
-fn entry_reply(selector: u8, value: &[u8]) -> Octets
+pub(crate) fn entry_reply(selector: u8, value: &[u8]) -> Octets
     requires { length value.now ≤ 64 }
     ensures { result ≡ 0x00 ∷ 0x11 ∷ selector ∷ value.now }
 {

@@ -2,13 +2,15 @@
 use super::*;
 use std::test::Fail;
 
+mod alerts;
+
 /// Enabled, for sensor type 04h and offset 2.
 const FILTER: [u8; 20] = [
     0x80, 0x20, 0x01, 0x10, 0xFF, 0xFF, 0x04, 0xFF, 0x01, 0x04, 0x00, 0x00, 0x00, 0x00, 0x00, 0x00,
     0x00, 0x00, 0x00, 0x00,
 ];
 
-const INITIAL: Initial = Initial {
+pub const INITIAL: Initial = Initial {
     control: 0x01,
     actions: 0x3F,
     delay: 0x05,
@@ -41,8 +43,8 @@ fn writes_are_checked_in_their_order(rt: HostRuntime) {
         // No such parameter comes before a wrong length.
         (4, &[0x01], 0x80),
         (4, &[], 0x80),
-        (8, &[0x10], 0x80),
-        (13, &[0x01, 0x01, 0x66], 0x80),
+        (14, &[0x10], 0x80),
+        (15, &[0x01, 0x01, 0x66], 0x80),
         (96, &[0x00], 0x80),
         (127, &[], 0x80),
         // Read only comes before a wrong length.
@@ -100,7 +102,7 @@ fn reads_are_checked_in_their_order(rt: HostRuntime) {
     let rows: [(u8, bool, u8, &[u8]); 19] = [
         (4, false, 0x00, &[0x80]),
         (4, true, 0x00, &[0x80]),
-        (9, true, 0x01, &[0x80]),
+        (14, true, 0x01, &[0x80]),
         (127, false, 0x00, &[0x80]),
         (6, true, 0x00, &[0x00, 0x11]),
         (7, true, 0x11, &[0x00, 0x11]),

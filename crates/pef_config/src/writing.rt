@@ -21,6 +21,19 @@ pub(crate) fn put_octet(into: &mut u8, payload: &[u8]) -> u8
     DONE
 }
 
+/// The system GUID: bit 0 of the first octet says whether it is to be used, and 16 octets follow.
+pub(crate) fn put_guid(into: &mut [u8; 17], payload: &[u8]) -> u8
+    ensures code { result ≡ answer_if (not (length payload.now == 17)) 0xC7 0x00 }
+    ensures written { result ≡ 0x00 → into.new ≡ payload.now }
+    ensures kept { result ≢ 0x00 → into.new ≡ into.old }
+{
+    if payload.len() != into.len() {
+        return LENGTH;
+    }
+    into.copy_from_slice(payload);
+    DONE
+}
+
 /// Set in progress: bits 1:0 are 0 or 1, and not 1 where they are 1 already.
 pub(crate) fn put_progress(into: &mut u8, payload: &[u8]) -> u8
     ensures code { result ≡ answer_if (not (length payload.now == 1)) 0xC7 (

@@ -3,7 +3,7 @@ use Rattle.std.proofs.Common.{◌≡◌, ℕ, true, false, Bool, cond, eqb, List
 use Rattle.board_core.specs.declared.step.Act.{Act}
 use Rattle.board_core.specs.declared.step.Act.TheVariants.{PowerDown, PowerCycle, Reset}
 use Rattle.filter_table.specs.BitTest.{fits, is_match}
-use Rattle.pef_config.specs.Places.{Tables, SetInProgress, Control, Actions, Delay, FirstOctet, OtherOctets, our_sizes}
+use Rattle.pef_config.specs.Places.{Tables, Actions, FirstOctet, OtherOctets, our_sizes}
 use Rattle.pef_match.specs.Parts.{Parts}
 use Rattle.pef_match.specs.Job.{filters_in, job}
 
@@ -18,12 +18,10 @@ abbrev filters : List ℕ → List ℕ → ℕ → List ℕ
 filters first last n = cond (eqb n 1) first (cond (eqb n 16) last (replicate 20 0))
 
 abbrev tables : ℕ → (ℕ → List ℕ) → Tables
-tables mask filter SetInProgress = 0x00 ∷ []
-tables mask filter Control = 0x01 ∷ []
 tables mask filter Actions = mask ∷ []
-tables mask filter Delay = 0x00 ∷ []
 tables mask filter (FirstOctet n) = take 1 (filter n)
 tables mask filter (OtherOctets n) = drop 1 (filter n)
+tables mask filter place = 0x00 ∷ []
 
 -- a fan's event of this type
 abbrev event_of : ℕ → List ℕ

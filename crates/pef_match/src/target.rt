@@ -32,7 +32,11 @@ impl Target {
 }
 
 impl Default for Target {
-    fn default() -> Target {
+    ghost use Rattle.std.specs.Prelude.{◌≡◌, []};
+
+    fn default() -> Target
+        ensures { result ≡ record { policy_number = 0; entry = 0; severity = 0; text = [] } }
+    {
         Target {
             policy_number: 0,
             entry: 0,

@@ -2,3 +2,4 @@ pub mod Passing
 pub mod Growing
 pub mod Reached
 pub mod Examples
+pub mod Renamed

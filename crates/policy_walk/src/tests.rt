@@ -86,32 +86,69 @@ fn slow_walk(stops: &[Stop], results: &[bool]) -> Option<usize> {
     None
 }
 
-/// Policies 0 to 4, channels 1 and 2, types 0 and 6.
-fn stop_numbered(number: u32) -> Stop {
+/// The ways in which four stops can share a channel, or a type: stops with the same number share it.
+const SHARED: [[u8; 4]; 15] = [
+    [0, 0, 0, 0],
+    [0, 0, 0, 1],
+    [0, 0, 1, 0],
+    [0, 0, 1, 1],
+    [0, 0, 1, 2],
+    [0, 1, 0, 0],
+    [0, 1, 0, 1],
+    [0, 1, 0, 2],
+    [0, 1, 1, 0],
+    [0, 1, 1, 1],
+    [0, 1, 1, 2],
+    [0, 1, 2, 0],
+    [0, 1, 2, 1],
+    [0, 1, 2, 2],
+    [0, 1, 2, 3],
+];
+
+/// Four stops with these policies, in digits to the base 5, on channels and with types that are shared so.
+fn stops_of(policies: u32, channels: [u8; 4], kinds: [u8; 4]) -> [Stop; 4] {
+    let stop = |digit: u32, channel, kind| Stop {
+        policy: (digit % 5) as u8,
+        channel,
+        kind,
+    };
+    [
+        stop(policies, channels[0], kinds[0]),
+        stop(policies / 5, channels[1], kinds[1]),
+        stop(policies / 25, channels[2], kinds[2]),
+        stop(policies / 125, channels[3], kinds[3]),
+    ]
+}
+
+/// The stop on another channel and with another type, different for each channel and type.
+fn renamed(stop: Stop) -> Stop {
     Stop {
-        policy: (number % 5) as u8,
-        channel: 1 + (number / 5 % 2) as u8,
-        kind: 6 * (number / 10 % 2) as u8,
+        policy: stop.policy,
+        channel: stop.channel ^ 0x0F,
+        kind: stop.kind ^ 0x07,
     }
 }
 
-/// Compares the walk with the slow one after these results, and behind each as resumed at its place. Results with a
-/// success behind the end are another row's.
-fn compare(rt: &impl Abort, stops: &[Stop], results: &[bool; 4]) {
-    if stops.len() > 4 || !stops.iter().all(|stop| stop.policy <= 4) {
-        return;
-    }
-    let mut walk = Walk::start(stops);
+/// Compares the walk with the slow one after these results, with the walk over the renamed stops, and behind each as
+/// resumed at its place. Results with a success behind the end are another row's.
+fn compare(rt: &impl Abort, stops: &[Stop], renamed: &[Stop], results: &[bool; 4]) {
+    assert!(rt; stops.len() <= 4 && stops.iter().all(|stop| stop.policy <= 4));
+    assert!(rt; renamed.len() <= 4 && renamed.iter().all(|stop| stop.policy <= 4));
+    let (mut walk, mut other) = (Walk::start(stops), Walk::start(renamed));
     for told in 0..results.len() {
         let is_own = !results[told..].iter().any(|success| *success);
         if is_own {
             let wanted = slow_walk(stops, &results[..told]);
             assert_eq!(rt; walk.current().map(usize::from), wanted);
+            assert_eq!(rt; other.current(), walk.current());
         }
         let Some(place) = walk.current() else {
             return;
         };
         walk.told(results[told]);
+        if other.current().is_some() {
+            other.told(results[told]);
+        }
         if is_own && usize::from(place) < stops.len() {
             let mut resumed = Walk::resume(stops, place);
             assert_eq!(rt; resumed.current(), Some(place));
@@ -120,10 +157,18 @@ fn compare(rt: &impl Abort, stops: &[Stop], results: &[bool; 4]) {
         }
     }
     assert_eq!(rt; walk.current().map(usize::from), slow_walk(stops, results));
+    assert_eq!(rt; other.current(), walk.current());
 }
 
 /// Compares them after all results.
 fn compare_all(rt: &impl Abort, stops: &[Stop]) {
+    let mut others = [Stop::default(); 4];
+    for (place, stop) in stops.iter().enumerate() {
+        if place < others.len() {
+            others[place] = renamed(*stop);
+        }
+    }
+    let others = &others[..stops.len().min(4)];
     for results in 0..16_u8 {
         let results = [
             results % 2 == 1,
@@ -131,30 +176,30 @@ fn compare_all(rt: &impl Abort, stops: &[Stop]) {
             results / 4 % 2 == 1,
             results / 8 == 1,
         ];
-        compare(rt, stops, &results);
+        compare(rt, stops, others, &results);
     }
 }
 
-/// All sets of up to four stops. Channels and types are only compared, so those of the first stop are fixed.
+/// All sets of up to four stops. Of channels and types only counts which stops share them (`proofs/Renamed.antt`): so each
+/// way to share them is tried, under two namings.
 #[test]
 fn all_walks_over_four_stops_are_the_slow_ones(rt: HostRuntime) {
     assert_eq!(rt; Walk::start(&[]).current(), None);
-    for code in 0..40_000 {
-        let stops = [
-            stop_numbered(code % 5),
-            stop_numbered(code / 5 % 20),
-            stop_numbered(code / 100 % 20),
-            stop_numbered(code / 2_000),
-        ];
-        compare_all(&rt, &stops);
-        if code < 2_000 {
-            compare_all(&rt, &stops[..3]);
-        }
-        if code < 100 {
-            compare_all(&rt, &stops[..2]);
-        }
-        if code < 5 {
-            compare_all(&rt, &stops[..1]);
+    for policies in 0..625 {
+        for channels in SHARED {
+            for kinds in SHARED {
+                let stops = stops_of(policies, channels, kinds);
+                compare_all(&rt, &stops);
+                if policies < 125 {
+                    compare_all(&rt, &stops[..3]);
+                }
+                if policies < 25 {
+                    compare_all(&rt, &stops[..2]);
+                }
+                if policies < 5 {
+                    compare_all(&rt, &stops[..1]);
+                }
+            }
         }
     }
 }
