@@ -7,6 +7,7 @@ ghost use Rattle.pef_engine.specs.Tally.{tally_rules, tally_view, tally_agrees, 
 
 use super::*;
 use board_core::{Act, MemBoard, Payload, Step, Told};
+use pef_journal::FileKind;
 use std::alloc::{AllocError, Global};
 use std::test::Fail;
 
@@ -34,12 +35,11 @@ impl Machine for Tally {
 
     ghost some_octet = { tally_octet };
 
-    fn kind() -> u8 {
-        2
-    }
-
-    fn settings_length() -> usize {
-        2
+    fn kind() -> FileKind {
+        FileKind {
+            number: 2,
+            settings: 2,
+        }
     }
 
     fn fresh(_alloc: Global, _settings: &[u8]) -> Result<Self, AllocError> {
