@@ -1,5 +1,4 @@
 //! The controller as a machine over its history.
-ghost use Rattle.std.specs.Prelude.{refl};
 ghost use Rattle.pef_core.specs.Histories.{controller_rules};
 ghost use Rattle.pef_core.specs.View.{view_of};
 ghost use Rattle.pef_core.specs.Laws.{controller_agrees, same_size, are_entries, some_octet};
@@ -10,14 +9,9 @@ use crate::item::Item;
 use board_core::{Payload, Step};
 use filter_table::Filter;
 use pef_engine::{Entry, Machine, MachineFault};
+use pef_journal::FileKind;
+use pef_settings::{FILTER, KIND};
 use std::alloc::{AllocError, Global};
-
-/// The kind of a controller's state file.
-const KIND: u8 = 1;
-/// How many octets of settings it has.
-const SETTINGS: usize = 55;
-/// Where the filter stands among them.
-const FILTER: usize = 35;
 
 /// A controller's settings are 55 octets, and the last 20 of them are its filter.
 impl Machine for Controller {
@@ -33,16 +27,10 @@ impl Machine for Controller {
 
     ghost are_entries = { are_entries };
 
-    ghost kind_fits = { refl };
-
     ghost some_octet = { some_octet };
 
-    fn kind() -> u8 {
+    fn kind() -> FileKind {
         KIND
-    }
-
-    fn settings_length() -> usize {
-        SETTINGS
     }
 
     fn fresh(alloc: Global, settings: &[u8]) -> Result<Self, AllocError> {

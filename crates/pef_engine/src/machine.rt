@@ -27,7 +27,9 @@ pub trait Machine: Sized + Drop {
 
     /// The kind of its state file.
     fn kind() -> FileKind
-        ensures { result ≡ rules.kind };
+        ensures kind { result ≡ rules.kind }
+        // a file has room for its settings
+        ensures fits { IsFileKind rules.kind };
 
     /// The machine of the empty history.
     fn fresh(alloc: Global, settings: &[u8]) -> Result<Self, AllocError>
@@ -74,9 +76,6 @@ pub trait Machine: Sized + Drop {
 
     /// What a history may take is a value that the code can hold.
     ghost are_entries: { (Z : List ℕ) (H : List (Entry Self.Item)) (entry : Entry Self.Item) → Allowed rules Z H entry → rules.is_entry entry };
-
-    /// A file has room for its settings.
-    ghost kind_fits: { IsFileKind rules.kind };
 
     /// No entry is without octets.
     ghost some_octet: { (entry : Entry Self.Item) → 1 ≤ length (rules.encode entry) };

@@ -1,5 +1,5 @@
 //! An engine over a tiny machine: what it stores and issues, and how it goes on in a later life.
-ghost use Rattle.std.specs.Prelude.{refl, ◌≡◌};
+ghost use Rattle.std.specs.Prelude.{◌≡◌};
 ghost use Rattle.board_core.specs.MemoryBoard.{memory_view};
 ghost use Rattle.pef_engine.specs.Engine.{IsLive, HasPlace};
 ghost use Rattle.pef_engine.specs.Rules.{Decodes};
@@ -30,8 +30,6 @@ impl Machine for Tally {
     ghost same_size = { tally_size };
 
     ghost are_entries = { tally_entries };
-
-    ghost kind_fits = { refl };
 
     ghost some_octet = { tally_octet };
 
