@@ -6,14 +6,13 @@ use Rattle.pef_journal.specs.Image.{IsFormatted}
 use Rattle.report_line.specs.declared.ending.Ending.{Ending}
 use Rattle.report_line.specs.declared.ending.Ending.TheVariants as ending
 use Rattle.report_line.specs.Finishing.{Finishes}
-use Rattle.script_text.specs.Settings.{settings_of}
 use Rattle.script_run.specs.Top.{Outside, EndsWith, IsRunEnd}
 use Rattle.script_run.proofs.EndLemmas.{Ended, ended, status_zero, done_ends, memory_ends}
-use Rattle.pef_cli.specs.Init.{IsInitEnd, Makes, Inits}
+use Rattle.pef_cli.specs.Init.{IsInitEnd, Making, Makes, Inits}
 
-module _ (old new : Outside) (status : ℕ) where
+module _ (of : Making) (old new : Outside) (status : ℕ) where
   -- the text gives no settings
-  refused : (end : Ending) → Makes old.board new.board old.unread old.reads new.reads end → IsTrue new.board.tells → (IsFormatted old.board.octets → ⊥) → (text : List ℕ) → old.unread ≡ Some text → settings_of text ≡ None
+  refused : (end : Ending) → Makes of old.board new.board old.unread old.reads new.reads end → IsTrue new.board.tells → (IsFormatted of.kinds old.board.octets → ⊥) → (text : List ℕ) → old.unread ≡ Some text → of.settings_of text ≡ None
       → (end ≡ ending.Settings) ⊎ ((end ≡ ending.Input) ⊎ ((end ≡ ending.Disk) ⊎ (end ≡ ending.Memory)))
   refused (ending.Done count) m t isnt text told none =
       let made = m.made (ap ending.Done m.is_end) t in
@@ -31,8 +30,8 @@ module _ (old new : Outside) (status : ℕ) where
   refused ending.Full m t isnt text told none = absurd m.is_end
 
   -- the text is good
-  complete : (end : Ending) (part : List ℕ) → EndsWith end part old.writes new.writes status → Makes old.board new.board old.unread old.reads new.reads end → IsTrue new.board.tells → (IsFormatted old.board.octets → ⊥)
-      → (text settings : List ℕ) → old.unread ≡ Some text → settings_of text ≡ Some settings
+  complete : (end : Ending) (part : List ℕ) → EndsWith end part old.writes new.writes status → Makes of old.board new.board old.unread old.reads new.reads end → IsTrue new.board.tells → (IsFormatted of.kinds old.board.octets → ⊥)
+      → (text settings : List ℕ) → old.unread ≡ Some text → of.settings_of text ≡ Some settings
       → (status ≡ 0) ⊎ ((status ≡ 10) ⊎ (Rose old.reads new.reads ⊎ (Rose old.board.disk_faults new.board.disk_faults ⊎ Rose old.writes new.writes)))
   complete (ending.Done count) part e m t isnt text settings told good = ⊎_elim inl (λ r. inr (inr (inr (inr r)))) (done_ends count part old.writes new.writes status e)
   complete ending.Settings part e m t isnt text settings told good = let clash : Some settings ≡ None = sym good ∙ m.refused refl text told in absurd (cc clash)
@@ -47,7 +46,7 @@ module _ (old new : Outside) (status : ℕ) where
   complete ending.Output part e m t isnt text settings told good = absurd m.is_end
   complete ending.Full part e m t isnt text settings told good = absurd m.is_end
 
-  pub inits : (end : Ending) → Makes old.board new.board old.unread old.reads new.reads end → Finishes old.written new.written old.writes new.writes end status → Inits old new status
+  pub inits : (end : Ending) → Makes of old.board new.board old.unread old.reads new.reads end → Finishes old.written new.written old.writes new.writes end status → Inits of old new status
   inits end m finishes =
       let e = ended old.written new.written old.writes new.writes end status finishes in record {
         end = end;

@@ -5,6 +5,7 @@ mod asked;
 mod form;
 mod init_fault;
 mod initializing;
+mod kinds;
 mod no_start;
 mod opening;
 mod program;

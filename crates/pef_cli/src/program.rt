@@ -1,7 +1,9 @@
 //! One call of the program on its words.
 ghost use Rattle.std.specs.Prelude.{◌≡◌, ◌⊎◌, map, string_bytes};
 ghost use Rattle.pef_cli.specs.declared.form.Form.TheVariants.{Init, Run};
-ghost use Rattle.pef_cli.specs.Init.{Inits};
+ghost use Rattle.pef_cli.specs.Init.{Inits, making};
+ghost use Rattle.pef_cli.specs.Kinds.{kinds};
+ghost use Rattle.pef_settings.specs.Settings.{controller, settings_of};
 ghost use Rattle.report_line.specs.declared.ending.Ending.TheVariants.{Usage};
 ghost use Rattle.report_line.specs.Finishing.{Finishes};
 ghost use Rattle.pef_cli.specs.Top.{IsNoForm, IsOfForm};
@@ -13,9 +15,11 @@ ghost use Rattle.script_run.specs.Top.{RunCall, outside};
 
 use crate::form::Form;
 use crate::initializing::init;
+use crate::kinds::KINDS;
 use crate::words::paths;
 use board_core::{Board, Sink, Source};
 use pef_core::Controller;
+use pef_settings::ControllerSettings;
 use report_line::{Ending, finish};
 use script_run::run;
 use std::alloc::Global;
@@ -32,7 +36,7 @@ pub fn top<B: Board, S: Source, K: Sink>(
     ensures usage { IsNoForm (map string_bytes words.now) → (result ≡ 2) × (board.new ≡ board.old) × (source.new ≡ source.old)
         × Finishes (K.written out.old) (K.written out.new) (K.faults out.old) (K.faults out.new) Usage result }
     ensures is_usage { result ≡ 2 → IsNoForm (map string_bytes words.now) }
-    ensures init { IsOfForm Init (map string_bytes words.now) → Inits
+    ensures init { IsOfForm Init (map string_bytes words.now) → Inits (making kinds controller settings_of)
         (outside (B.view board.old) (S.left source.old) (S.faults source.old) (K.written out.old) (K.faults out.old))
         (outside (B.view board.new) (S.left source.new) (S.faults source.new) (K.written out.new) (K.faults out.new)) result }
     ensures run { IsOfForm Run (map string_bytes words.now) → RunCall (kind controller_rules view_of controller_scripts)
@@ -43,7 +47,7 @@ pub fn top<B: Board, S: Source, K: Sink>(
         return finish(out, Ending::Usage);
     };
     match paths.form {
-        Form::Init => init(alloc, board, source, out),
+        Form::Init => init::<ControllerSettings, B, S, K>(alloc, &KINDS, board, source, out),
         Form::Run => run::<Controller, B, S, K>(alloc, board, source, out),
     }
 }

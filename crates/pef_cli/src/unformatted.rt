@@ -3,13 +3,9 @@ use board_core::{Board, Payload};
 use pef_core::Controller;
 use pef_engine::{Engine, EngineFault};
 use pef_journal::{Journal, JournalFault};
+use pef_settings::{KIND, SETTINGS};
 use std::alloc::Global;
 use thiserror::Error;
-
-// The kind of a controller's state file, and the length of its settings.
-const CONTROLLER: u8 = 1;
-
-const SETTINGS: usize = 55;
 
 /// Why a file isn't a controller's state file. Places are in octets from 0 on.
 #[derive(Clone, Copy, Debug, PartialEq, Eq, Error)]
@@ -38,7 +34,7 @@ pub fn why_unformatted<B: Board>(alloc: Global, board: &mut B) -> Option<Unforma
 // Reads the entries before this place, and looks whether a whole one stands there.
 fn why_corrupt<B: Board>(board: &mut B, at: u64) -> Option<Unformatted> {
     let mut settings = [0; SETTINGS];
-    let mut journal = Journal::open(board, CONTROLLER, &mut settings).ok()?;
+    let mut journal = Journal::open(board, KIND, &mut settings).ok()?;
     let mut entry = Payload::new();
     for _ in 0..at {
         if journal.place() >= at {

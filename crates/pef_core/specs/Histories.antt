@@ -5,6 +5,7 @@ use Rattle.board_core.specs.declared.step.Step.{Step}
 use Rattle.board_core.specs.declared.step.Step.TheVariants.{Act}
 use Rattle.event_record.specs.Fields.{record_id}
 use Rattle.pef_commands.specs.Request.{Asked}
+use Rattle.pef_settings.specs.Settings.{controller}
 use Rattle.pef_engine.specs.declared.entry.Entry.{Entry}
 use Rattle.pef_engine.specs.declared.entry.Entry.TheVariants.{Item as Taken, Outcome}
 use Rattle.pef_engine.specs.declared.marks.Mark.TheVariants.{Open as Opened, Close as Closed, Outcome as Told}
@@ -58,8 +59,7 @@ encode (Outcome told) = mark_octets (Told told)
 -- An item comes where the rule of scripts lets it come.
 abbrev pub controller_rules : Rules Item
 controller_rules = record {
-  kind = 1;
-  settings = 55;
+  kind = controller;
   is_entry = λ entry. IsEntry entry;
   encode = encode;
   pending = pending;

@@ -1,5 +1,4 @@
 //! The controller as a machine over its history.
-ghost use Rattle.std.specs.Prelude.{refl};
 ghost use Rattle.pef_core.specs.Histories.{controller_rules};
 ghost use Rattle.pef_core.specs.View.{view_of};
 ghost use Rattle.pef_core.specs.Laws.{controller_agrees, same_size, are_entries, some_octet};
@@ -10,22 +9,11 @@ use crate::item::Item;
 use board_core::{Payload, Step};
 use pef_config::Initial;
 use pef_engine::{Entry, Machine, MachineFault};
+use pef_journal::FileKind;
+use pef_settings::{ACTIONS, CONTROL, DELAY, FILTER, KIND};
 use std::alloc::{AllocError, Global};
 
-/// The kind of a controller's state file.
-const KIND: u8 = 1;
-/// How many octets of settings it has.
-const SETTINGS: usize = 55;
-/// Where the initial parameters stand among them.
-const CONTROL: usize = 32;
-
-const ACTIONS: usize = 33;
-
-const DELAY: usize = 34;
-
-const FILTER: usize = 35;
-
-/// Of a controller's 55 octets of settings the last 23 are initial parameters.
+/// Of a controller's settings the last 23 octets are initial parameters.
 impl Machine for Controller {
     type Item = Item;
 
@@ -39,16 +27,10 @@ impl Machine for Controller {
 
     ghost are_entries = { are_entries };
 
-    ghost kind_fits = { refl };
-
     ghost some_octet = { some_octet };
 
-    fn kind() -> u8 {
+    fn kind() -> FileKind {
         KIND
-    }
-
-    fn settings_length() -> usize {
-        SETTINGS
     }
 
     fn fresh(alloc: Global, settings: &[u8]) -> Result<Self, AllocError> {

@@ -5,6 +5,7 @@ use Rattle.board_core.specs.Causes.{Rose}
 use Rattle.board_core.specs.Board.{BoardView, IsSound, IsFileRun, LeavesOnly}
 use Rattle.pef_engine.specs.declared.entry.Entry.{Entry}
 use Rattle.pef_journal.specs.Image as image
+use Rattle.pef_journal.specs.declared.kind.FileKind.{FileKind}
 use Rattle.pef_journal.specs.Journal.{IsAtEnd}
 use Rattle.pef_journal.specs.declared.journal.Journal.{Journal}
 use Rattle.pef_engine.specs.Rules.{Rules, Allowed, LawfulFrom, Lawful, Stands, IsOver, NoneOver}
@@ -13,7 +14,7 @@ use Rattle.pef_engine.specs.Engine.{Counts}
 use Rattle.pef_engine.proofs.Moments.{leaves_start}
 
 -- the same octets and images
-pub at_end_along : (kind : ℕ) (Z : List ℕ) (es : List (List ℕ)) (v w : BoardView) (journal : Journal) → w.octets ≡ v.octets → ((c : List ℕ) → w.images c → v.images c) → IsAtEnd kind Z es v journal → IsAtEnd kind Z es w journal
+pub at_end_along : (kind : FileKind) (Z : List ℕ) (es : List (List ℕ)) (v w : BoardView) (journal : Journal) → w.octets ≡ v.octets → ((c : List ℕ) → w.images c → v.images c) → IsAtEnd kind Z es v journal → IsAtEnd kind Z es w journal
 at_end_along kind Z es v w journal octets images old = record {
   at = record {
     rest = old.at.rest;
@@ -26,7 +27,7 @@ at_end_along kind Z es v w journal octets images old = record {
   ended = old.ended;
 }
 
-pub images_stand : (kind : ℕ) (Z : List ℕ) (es : List (List ℕ)) (v : BoardView) (journal : Journal) → IsAtEnd kind Z es v journal → (c : List ℕ) → v.images c → image.Stands kind Z es c
+pub images_stand : (kind : FileKind) (Z : List ℕ) (es : List (List ℕ)) (v : BoardView) (journal : Journal) → IsAtEnd kind Z es v journal → (c : List ℕ) → v.images c → image.Stands kind Z es c
 images_stand kind Z es v journal at c now =
     subst (λ f. image.Stands kind Z es f) (sym (at.at.lasting c now)) (subst (λ (l : List (List ℕ)). image.Stands kind Z l v.octets) (append-nil es) at.at.stands)
 

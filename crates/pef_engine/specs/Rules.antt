@@ -4,12 +4,12 @@ use Rattle.board_core.specs.declared.step.Step.{Step}
 use Rattle.pef_engine.specs.declared.entry.Entry.{Entry}
 use Rattle.pef_engine.specs.declared.entry.Entry.TheVariants.{Item, Outcome}
 use Rattle.pef_journal.specs.Image as image
+use Rattle.pef_journal.specs.declared.kind.FileKind.{FileKind}
 
 -- a history is a list of entries; a place in it is a number of entries from the front
 pub record Rules (I : Type 0) : Type 1 where
-  pub kind : ℕ
-  -- the length of the settings
-  pub settings : ℕ
+  -- the kind of its state file
+  pub kind : FileKind
   -- it is a value that the code can hold, as numbers in their types' ranges
   pub is_entry : Entry I → Type 0
   -- the octets of an entry

@@ -38,8 +38,7 @@ tally_entry (Outcome told) = ⊤
 
 abbrev pub tally_rules : Rules ℕ
 tally_rules = record {
-  kind = 2;
-  settings = 2;
+  kind = record { number = 2; settings = 2 };
   is_entry = λ e. tally_entry e;
   encode = tally_encode;
   pending = λ Z H. step_of (due_after true false H);

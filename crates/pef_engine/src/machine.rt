@@ -1,7 +1,7 @@
 //! A machine over a history of entries.
 ghost use Rattle.std.specs.Prelude.{◌≡◌, ◌↔◌, ◌<◌, ◌≤◌, ℕ, List, [], ◌∷◌, ◌++◌, length, Option, Some, IfOk, OnOk, OnErr, IsErr, IsErrOf, IsTrue, IsSome};
 ghost use Rattle.board_core.specs.declared.step.Step.{Step};
-ghost use Rattle.pef_journal.specs.Image.{settings_length};
+ghost use Rattle.pef_journal.specs.Image.{IsFileKind};
 ghost use Rattle.pef_engine.specs.Rules.{Rules, Decodes, IsOutcome, Allowed};
 ghost use Rattle.pef_engine.specs.declared.entry.Entry.{Entry};
 ghost use Rattle.pef_engine.specs.declared.entry.Entry.TheVariants.{Outcome};
@@ -11,6 +11,7 @@ ghost use Rattle.pef_engine.specs.MachineView.{MachineView, KeepsAllButReady, Is
 use crate::entry::Entry;
 use crate::faults::MachineFault;
 use board_core::{Payload, Step};
+use pef_journal::FileKind;
 use std::alloc::{AllocError, Global};
 
 /// A state that a history of entries leads to, with the step that is due there. It knows nothing of files.
@@ -25,16 +26,14 @@ pub trait Machine: Sized + Drop {
     ghost view: { Self → MachineView Self.Item };
 
     /// The kind of its state file.
-    fn kind() -> u8
-        ensures { result ≡ rules.kind };
-
-    /// How many octets of settings its file has.
-    fn settings_length() -> usize
-        ensures { result ≡ rules.settings };
+    fn kind() -> FileKind
+        ensures kind { result ≡ rules.kind }
+        // a file has room for its settings
+        ensures fits { IsFileKind rules.kind };
 
     /// The machine of the empty history.
     fn fresh(alloc: Global, settings: &[u8]) -> Result<Self, AllocError>
-        requires { length settings.now ≡ rules.settings }
+        requires { length settings.now ≡ rules.kind.settings }
         ensures { IfOk result (λ machine. (view machine).shows settings.now []) };
 
     /// True where the entry may come next: an outcome where a step is due, an item where none is and its own rule holds.
@@ -77,9 +76,6 @@ pub trait Machine: Sized + Drop {
 
     /// What a history may take is a value that the code can hold.
     ghost are_entries: { (Z : List ℕ) (H : List (Entry Self.Item)) (entry : Entry Self.Item) → Allowed rules Z H entry → rules.is_entry entry };
-
-    /// Its kind of file has settings of this length.
-    ghost kind_fits: { settings_length rules.kind ≡ Some rules.settings };
 
     /// No entry is without octets.
     ghost some_octet: { (entry : Entry Self.Item) → 1 ≤ length (rules.encode entry) };

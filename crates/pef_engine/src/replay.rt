@@ -8,11 +8,8 @@ use crate::engine::{Engine, make_ready};
 use crate::faults::EngineFault;
 use crate::machine::Machine;
 use board_core::{Board, Payload};
-use pef_journal::Journal;
+use pef_journal::{Journal, MAX_SETTINGS};
 use std::alloc::Global;
-
-// room for the settings of every kind of file
-const SETTINGS_ROOM: usize = 64;
 
 impl<M: Machine> Engine<M> {
     /// Syncs, and replays the file's entries; it writes nothing. `NotFormatted` and `Corrupt` come only where the file isn't a valid
@@ -21,8 +18,8 @@ impl<M: Machine> Engine<M> {
     pub fn open<B: Board>(alloc: Global, board: &mut B) -> Result<Engine<M>, EngineFault>
         ensures { Opens M.rules M.view (B.view board.old) (B.view board.new) result }
     {
-        let mut settings = [0u8; SETTINGS_ROOM];
-        Self::replay(alloc, board, &mut settings[..M::settings_length()])
+        let mut settings = [0u8; MAX_SETTINGS];
+        Self::replay(alloc, board, &mut settings[..M::kind().settings])
     }
 
     // Reads the settings and replays the entries.
@@ -31,7 +28,7 @@ impl<M: Machine> Engine<M> {
         board: &mut B,
         settings: &mut [u8],
     ) -> Result<Engine<M>, EngineFault>
-        requires { length settings.old ≡ M.rules.settings }
+        requires { length settings.old ≡ M.rules.kind.settings }
         ensures { Opens M.rules M.view (B.view board.old) (B.view board.new) result }
     {
         let mut journal = Journal::open(board, M::kind(), settings)?;

@@ -1,5 +1,5 @@
 //! An engine over a tiny machine: what it stores and issues, and how it goes on in a later life.
-ghost use Rattle.std.specs.Prelude.{refl, ◌≡◌};
+ghost use Rattle.std.specs.Prelude.{◌≡◌};
 ghost use Rattle.board_core.specs.MemoryBoard.{memory_view};
 ghost use Rattle.pef_engine.specs.Engine.{IsLive, HasPlace};
 ghost use Rattle.pef_engine.specs.Rules.{Decodes};
@@ -7,6 +7,7 @@ ghost use Rattle.pef_engine.specs.Tally.{tally_rules, tally_view, tally_agrees, 
 
 use super::*;
 use board_core::{Act, MemBoard, Payload, Step, Told};
+use pef_journal::FileKind;
 use std::alloc::{AllocError, Global};
 use std::test::Fail;
 
@@ -30,16 +31,13 @@ impl Machine for Tally {
 
     ghost are_entries = { tally_entries };
 
-    ghost kind_fits = { refl };
-
     ghost some_octet = { tally_octet };
 
-    fn kind() -> u8 {
-        2
-    }
-
-    fn settings_length() -> usize {
-        2
+    fn kind() -> FileKind {
+        FileKind {
+            number: 2,
+            settings: 2,
+        }
     }
 
     fn fresh(_alloc: Global, _settings: &[u8]) -> Result<Self, AllocError> {

@@ -3,6 +3,7 @@ use Rattle.std.proofs.Common.{◌≡◌, ◌≢◌, inl, inr, ℕ, ◌+◌, ◌/
 use Rattle.std.proofs.lemmas.Bool.{cases_eq}
 use Rattle.std.proofs.lemmas.List.{take_at, drop_at, drop_more, append-nil, length-take-le, take-append-le}
 use Rattle.board_core.specs.Board.{BoardView, CrashState, IsSound, IsFileRun, LeavesOnly, SameSteps, Torn, Holds, Only}
+use Rattle.pef_journal.specs.declared.kind.FileKind.{FileKind}
 use Rattle.pef_journal.specs.Image.{header, blocks, frame, IsPayload, AllPayloads, HasEntries, Stands}
 use Rattle.pef_journal.specs.Journal.{IsAtEnd, LeavesTorn, StandsForEither}
 use Rattle.pef_journal.specs.declared.journal.Journal.{Journal}
@@ -23,7 +24,7 @@ written_whole file mid new fr place room first second =
     second ∙ (λ i. (before i ++ 165 ∷ []) ++ behind_gate i) ∙ append_assoc (take place file) (165 ∷ []) (fr ++ tail) ∙ sym (append_assoc (take place file) (165 ∷ fr) tail)
     ∙ ap (λ k. (take place file ++ 165 ∷ fr) ++ drop k file) far
 
-module _ (kind : ℕ) (Z : List ℕ) (E : List (List ℕ)) (v : BoardView) (journal : Journal) (at : IsAtEnd kind Z E v journal) where
+module _ (kind : FileKind) (Z : List ℕ) (E : List (List ℕ)) (v : BoardView) (journal : Journal) (at : IsAtEnd kind Z E v journal) where
   abbrev front : List ℕ
   front = header kind Z ++ blocks E
 

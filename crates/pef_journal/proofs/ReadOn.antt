@@ -3,6 +3,7 @@ use Rattle.std.proofs.Common.{◌≡◌, ⊎_elim, ℕ, ◌+◌, ◌-◌, ◌/�
 use Rattle.std.proofs.Math.Nat.{div-add-mod}
 use Rattle.std.proofs.lemmas.List.{drop_at, drop_more, length-drop, length-take-le, append-nil, get_or-append-add}
 use Rattle.board_core.specs.Board.{BoardView, Reads}
+use Rattle.pef_journal.specs.declared.kind.FileKind.{FileKind}
 use Rattle.pef_journal.specs.Image.{header, blocks, IsPayload, AllPayloads, HasEntries, IsForKind, Stands, StandsForNone, IsShutAt, IsCorruptAt, HasEntryAt, HasEntryWithin, length_at}
 use Rattle.pef_journal.specs.Gate.{LiesWithin}
 use Rattle.pef_journal.specs.Journal.{HasRead, IsAt, IsAtEnd, HasEnded, GivesEntry}
@@ -87,7 +88,7 @@ entries_some : (entries : List (List ℕ)) (rest : List ℕ) → HasEntries entr
 entries_some [] rest has none = cc (none, has.2)
 entries_some (e ∷ es) rest has none = cc (none, has.2)
 
-module _ (kind : ℕ) (Z : List ℕ) (before : List (List ℕ)) (v : BoardView) (journal : Journal) where
+module _ (kind : FileKind) (Z : List ℕ) (before : List (List ℕ)) (v : BoardView) (journal : Journal) where
   -- a journal that stands before entries has read those that are before
   pub has_read : (after : List (List ℕ)) → IsAt kind Z before after v journal → HasRead kind Z before v journal
   has_read after at = record {
@@ -127,7 +128,7 @@ module _ (kind : ℕ) (Z : List ℕ) (before : List (List ℕ)) (v : BoardView) 
         let split = front_entries before r.rest entries r.payloads (subst (HasEntries entries) same.1 stands.2) in
         (same.0, (split.0, split.1, stands_before split.0 r split.2))
       where
-        header_same : (k : ℕ) (A B a b : List ℕ) → header k A ++ a ≡ header k B ++ b → (A ≡ B) × (a ≡ b)
+        header_same : (k : FileKind) (A B a b : List ℕ) → header k A ++ a ≡ header k B ++ b → (A ≡ B) × (a ≡ b)
         header_same k A B a b both = block_same A B a b (ap (λ l. 165 ∷ drop 2 l) both)
 
     -- where the next gate is corrupt, the file stands for nothing
@@ -144,7 +145,7 @@ module _ (kind : ℕ) (Z : List ℕ) (before : List (List ℕ)) (v : BoardView) 
 -- ---- one call of `entry`
 
 -- a call that reads leaves what was read
-pub still_read : (kind : ℕ) (Z : List ℕ) (before : List (List ℕ)) (v w : BoardView) (journal new : Journal) → Reads v w → IsTrue w.tells → new.place ≡ journal.place → HasRead kind Z before v journal → HasRead kind Z before w new
+pub still_read : (kind : FileKind) (Z : List ℕ) (before : List (List ℕ)) (v w : BoardView) (journal new : Journal) → Reads v w → IsTrue w.tells → new.place ≡ journal.place → HasRead kind Z before v journal → HasRead kind Z before w new
 still_read kind Z before v w journal new reads tells place r = record {
   rest = r.rest;
   file = (r.file.0, reads.octets tells ∙ r.file.1, r.file.2);
@@ -154,7 +155,7 @@ still_read kind Z before v w journal new reads tells place r = record {
   lasting = λ c now. r.lasting c ((reads.images tells c).0 now) ∙ sym (reads.octets tells);
 }
 
-module _ (kind : ℕ) (Z : List ℕ) (before : List (List ℕ)) (v w : BoardView) (journal new : Journal) (reads : Reads v w) (tells : IsTrue w.tells) where
+module _ (kind : FileKind) (Z : List ℕ) (before : List (List ℕ)) (v w : BoardView) (journal new : Journal) (reads : Reads v w) (tells : IsTrue w.tells) where
   -- at a closed gate
   pub read_closed : HasRead kind Z before v journal → IsShutAt v.octets journal.place → new.place ≡ journal.place → HasEnded new → IsAtEnd kind Z before w new
   unfolding still_read
@@ -229,13 +230,13 @@ module _ (kind : ℕ) (Z : List ℕ) (before : List (List ℕ)) (v w : BoardView
 
 -- ---- a file that can't be read on stands for nothing
 
-pub stands_for_kind : (kind : ℕ) (Z : List ℕ) (entries : List (List ℕ)) (file : List ℕ) → Stands kind Z entries file → IsForKind kind file
+pub stands_for_kind : (kind : FileKind) (Z : List ℕ) (entries : List (List ℕ)) (file : List ℕ) → Stands kind Z entries file → IsForKind kind file
 stands_for_kind kind Z entries file stands = (Z, stands.0, stands.1)
 
 -- where `open` answers that the file isn't of this kind
-pub unformatted_stands_for_none : (kind : ℕ) (file : List ℕ) → (IsForKind kind file → ⊥) → StandsForNone kind file
+pub unformatted_stands_for_none : (kind : FileKind) (file : List ℕ) → (IsForKind kind file → ⊥) → StandsForNone kind file
 unformatted_stands_for_none kind file none Z entries stands = none (stands_for_kind kind Z entries file stands)
 
 -- where `entry` answers that the gate is corrupt
-pub corrupt_stands_for_none : (kind : ℕ) (Z : List ℕ) (before : List (List ℕ)) (v : BoardView) (journal : Journal) → HasRead kind Z before v journal → IsCorruptAt v.octets journal.place → StandsForNone kind v.octets
+pub corrupt_stands_for_none : (kind : FileKind) (Z : List ℕ) (before : List (List ℕ)) (v : BoardView) (journal : Journal) → HasRead kind Z before v journal → IsCorruptAt v.octets journal.place → StandsForNone kind v.octets
 corrupt_stands_for_none kind Z before v journal r corrupt Y entries stands = corrupt_stands_not kind Z before v journal r Y entries corrupt stands

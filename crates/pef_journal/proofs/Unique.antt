@@ -2,6 +2,7 @@
 use Rattle.std.proofs.Common.{◌≡◌, ℕ, ◌/◌, ◌%◌, List, [], ◌∷◌, ◌++◌, length, get_or, take, drop, refl, sym, ◌∙◌, ap, subst, arith}
 use Rattle.std.proofs.Math.Nat.{div-add-mod}
 use Rattle.std.proofs.lemmas.List.{take_at, drop_at, append_cancel_left}
+use Rattle.pef_journal.specs.declared.kind.FileKind.{FileKind}
 use Rattle.pef_journal.specs.Image.{header, HasEntries, Stands}
 
 -- what stands behind a gate says which entry it is
@@ -24,7 +25,7 @@ HasEntries_unique (e ∷ es) (f ∷ fs) file a b =
     let more = HasEntries_unique es fs b.0 (subst (HasEntries es) same.1 a.3) b.3 in
     λ i. same.0 i ∷ more i
 
-pub Stands_unique : (kind : ℕ) (Z : List ℕ) (es fs : List (List ℕ)) (file : List ℕ) → Stands kind Z es file → Stands kind Z fs file → es ≡ fs
+pub Stands_unique : (kind : FileKind) (Z : List ℕ) (es fs : List (List ℕ)) (file : List ℕ) → Stands kind Z es file → Stands kind Z fs file → es ≡ fs
 Stands_unique kind Z es fs file a b =
     let rest_is : a.0 ≡ b.0 = append_cancel_left (header kind Z) a.0 b.0 (sym a.1.1 ∙ b.1.1) in
     HasEntries_unique es fs b.0 (subst (HasEntries es) rest_is a.2) b.2

@@ -1,20 +1,21 @@
 -- What the octets of a state file stand for.
 --
--- Octet 0 is A5h, octet 1 the kind, octets 2 and 3 the settings' length, least significant first; the settings follow,
--- and behind them the first gate. Behind an open gate stand the length of an entry in two octets, its octets and the
+-- Octet 0 is A5h, octet 1 the kind's number, octets 2 and 3 the settings' length, least significant first; the settings
+-- follow, and behind them the first gate. Behind an open gate stand the length of an entry in two octets, its octets and the
 -- next gate. A gate is open where it is A5h.
-use Rattle.std.specs.Prelude.{◌≡◌, ◌≢◌, ◌⊎◌, ℕ, ◌+◌, ◌*◌, ◌/◌, ◌%◌, ◌<◌, ◌≤◌, ◌==◌, if◌then◌else◌, List, [], ◌∷◌, ◌++◌, length, slice_index, Option, Some, None, ⊤}
+use Rattle.std.specs.Prelude.{◌≡◌, ◌≢◌, ◌⊎◌, ℕ, ◌+◌, ◌*◌, ◌/◌, ◌%◌, ◌<◌, ◌≤◌, List, [], ◌∷◌, ◌++◌, length, slice_index, ⊤}
+use Rattle.pef_journal.specs.declared.kind.FileKind.{FileKind}
 
--- the settings' length of each kind of file: 55 octets for a controller, 2 for a console
-abbrev pub settings_length : ℕ → Option ℕ
-settings_length kind = if kind == 1 then Some 55 else (if kind == 2 then Some 2 else None)
+-- no kind of file has more than 64 octets of settings
+abbrev pub IsFileKind : FileKind → Type 0
+IsFileKind kind = kind.settings ≤ 64
 
-abbrev pub HasSettingsLength : ℕ → List ℕ → Type 0
-HasSettingsLength kind settings = settings_length kind ≡ Some (length settings)
+abbrev pub HasSettingsLength : FileKind → List ℕ → Type 0
+HasSettingsLength kind settings = IsFileKind kind × (length settings ≡ kind.settings)
 
 -- what stands before the first gate
-abbrev pub header : ℕ → List ℕ → List ℕ
-header kind settings = 165 ∷ kind ∷ (length settings % 256) ∷ (length settings / 256) ∷ settings
+abbrev pub header : FileKind → List ℕ → List ℕ
+header kind settings = 165 ∷ kind.number ∷ (length settings % 256) ∷ (length settings / 256) ∷ settings
 
 -- entries behind one another, each behind an open gate
 abbrev pub blocks : List (List ℕ) → List ℕ
@@ -40,30 +41,28 @@ HasEntries (entry ∷ entries) file = (rest : List ℕ) × IsPayload entry
     × (file ≡ 165 ∷ (length entry % 256) ∷ (length entry / 256) ∷ (entry ++ rest)) × HasEntries entries rest
 
 -- the file is formatted with this kind and these settings, and has this behind them
-abbrev pub HasHeader : ℕ → List ℕ → List ℕ → List ℕ → Type 0
+abbrev pub HasHeader : FileKind → List ℕ → List ℕ → List ℕ → Type 0
 HasHeader kind settings rest file = HasSettingsLength kind settings × (file ≡ header kind settings ++ rest) × (rest ≢ [])
 
-abbrev pub IsForKind : ℕ → List ℕ → Type 0
+abbrev pub IsForKind : FileKind → List ℕ → Type 0
 IsForKind kind file = (settings : List ℕ) × (rest : List ℕ) × HasHeader kind settings rest file
 
-abbrev pub IsFormatted : List ℕ → Type 0
-IsFormatted file = (kind : ℕ) × IsForKind kind file
+-- octet 0 is that of a formatted file, and more follows
+abbrev pub IsMarked : List ℕ → Type 0
+IsMarked file = (rest : List ℕ) × (file ≡ 165 ∷ rest) × (1 ≤ length rest)
+
+-- the file is formatted as one of these kinds
+abbrev pub IsFormatted : List FileKind → List ℕ → Type 0
+IsFormatted [] file = ⊥
+IsFormatted (kind ∷ kinds) file = IsForKind kind file ⊎ IsFormatted kinds file
 
 -- the file stands for these entries
-abbrev pub Stands : ℕ → List ℕ → List (List ℕ) → List ℕ → Type 0
+abbrev pub Stands : FileKind → List ℕ → List (List ℕ) → List ℕ → Type 0
 Stands kind settings entries file = (rest : List ℕ) × HasHeader kind settings rest file × HasEntries entries rest
 
 -- whatever settings and entries are named, the file doesn't stand for them
-abbrev pub StandsForNone : ℕ → List ℕ → Type 0
+abbrev pub StandsForNone : FileKind → List ℕ → Type 0
 StandsForNone kind file = (settings : List ℕ) (entries : List (List ℕ)) → Stands kind settings entries file → ⊥
-
--- the kind of a file that is formatted, and none of another
-abbrev pub KindIs : List ℕ → Option ℕ → Type 0
-KindIs file (Some kind) = IsForKind kind file
-KindIs file None = IsFormatted file → ⊥
-
-abbrev pub IsEmptyOrUnformatted : ℕ → List ℕ → List ℕ → Type 0
-IsEmptyOrUnformatted kind settings file = (IsFormatted file → ⊥) ⊎ Stands kind settings [] file
 
 -- the gate at this place is in the file and closed
 abbrev pub IsShutAt : List ℕ → ℕ → Type 0
@@ -86,7 +85,7 @@ abbrev pub IsCorruptAt : List ℕ → ℕ → Type 0
 IsCorruptAt file gate = (length file ≤ gate) ⊎ (IsOpenAt file gate × (HasEntryWithin file gate → ⊥))
 
 -- the file has its header and these entries with their gates, and this is the place of the next gate, which is in the file
-pub record ReachesGate (kind : ℕ) (settings : List ℕ) (entries : List (List ℕ)) (gate : ℕ) (file : List ℕ) : Type 0 where
+pub record ReachesGate (kind : FileKind) (settings : List ℕ) (entries : List (List ℕ)) (gate : ℕ) (file : List ℕ) : Type 0 where
   pub rest : List ℕ
   pub octets : HasHeader kind settings (blocks entries ++ rest) file
   pub behind : rest ≢ []

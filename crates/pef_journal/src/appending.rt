@@ -2,6 +2,7 @@
 ghost use Rattle.std.specs.Prelude.{◌≡◌, ◌⊎◌, ◌↔◌, ◌+◌, ◌^◌, ◌<◌, ◌≤◌, ℕ, List, [], ◌∷◌, ◌++◌, length, IsTrue, OnOk, OnErr, IsErrOf};
 ghost use Rattle.board_core.specs.Causes.{HasCause, Rose};
 ghost use Rattle.board_core.specs.Board.{Only, LeavesOnly, HasRoomFor, Holds, SameSteps, IsFileRun};
+ghost use Rattle.pef_journal.specs.declared.kind.FileKind.{FileKind};
 ghost use Rattle.pef_journal.specs.Image.{frame};
 ghost use Rattle.pef_journal.specs.Journal.{IsAtEnd, HasEnded, HasRoom, StandsForEither, LeavesTorn};
 
@@ -18,14 +19,14 @@ impl Journal {
         requires ended { HasEnded self.old }
         requires payload { 0 < length payload.now }
         requires place { HasRoomFor (B.view board.old) (self.old.place + 1) }
-        ensures added { IsTrue (B.view board.new).tells → (kind : ℕ) (settings : List ℕ) (entries : List (List ℕ)) →
+        ensures added { IsTrue (B.view board.new).tells → (kind : FileKind) (settings : List ℕ) (entries : List (List ℕ)) →
             IsAtEnd kind settings entries (B.view board.old) self.old →
             OnOk result (IsAtEnd kind settings (entries ++ payload.now ∷ []) (B.view board.new) self.new) }
         // the gate is opened, and behind it stand the length, the payload and the next gate
         ensures written { IsTrue (B.view board.new).tells → OnOk result
             (Holds (B.view board.old).octets self.old.place (165 ∷ frame payload.now) (B.view board.new).octets) }
         // a crash at any moment of the call leaves the entries, with the new one or without
-        ensures any_moment { IsTrue (B.view board.new).tells → (kind : ℕ) (settings : List ℕ) (entries : List (List ℕ)) →
+        ensures any_moment { IsTrue (B.view board.new).tells → (kind : FileKind) (settings : List ℕ) (entries : List (List ℕ)) →
             IsAtEnd kind settings entries (B.view board.old) self.old →
             LeavesOnly (B.view board.old) (B.view board.new)
             (λ left. SameSteps (B.view board.old) left × StandsForEither kind settings entries payload.now left.image) }

@@ -1,6 +1,6 @@
 //! The layout of a state file.
-ghost use Rattle.std.specs.Prelude.{◌≡◌, ◌<◌, ◌≤◌, IfSome, ◌/◌, ◌%◌, [], ◌∷◌, length};
-ghost use Rattle.pef_journal.specs.Image.{settings_length as length_of_settings, frame};
+ghost use Rattle.std.specs.Prelude.{◌≡◌, ◌<◌, ◌/◌, ◌%◌, [], ◌∷◌};
+ghost use Rattle.pef_journal.specs.Image.{frame};
 
 use board_core::{Bytes, Payload};
 
@@ -13,24 +13,12 @@ pub const LONGEST: usize = 520;
 /// The place of the settings.
 pub const SETTINGS: u64 = 4;
 
-/// The settings' length of a kind of file, in octets.
-pub fn settings_length(kind: u8) -> Option<usize>
-    ensures value { result ≡ length_of_settings kind }
-    ensures bound { IfSome result (λ n. n ≤ 55) }
-{
-    match kind {
-        1 => Some(55),
-        2 => Some(2),
-        _ => None,
-    }
-}
-
-/// The first four octets of a formatted file, for settings of this length.
-pub fn head_of(kind: u8, length: usize) -> [u8; 4]
+/// The first four octets of a formatted file, by its kind's number and the length of its settings.
+pub fn head_of(number: u8, length: usize) -> [u8; 4]
     requires { length < 65536 }
-    ensures { result ≡ 165 ∷ kind ∷ (length % 256) ∷ (length / 256) ∷ [] }
+    ensures { result ≡ 165 ∷ number ∷ (length % 256) ∷ (length / 256) ∷ [] }
 {
-    [OPEN, kind, (length % 256) as u8, (length / 256) as u8]
+    [OPEN, number, (length % 256) as u8, (length / 256) as u8]
 }
 
 /// What stands behind an entry's gate: its length, its octets and the next gate, closed.

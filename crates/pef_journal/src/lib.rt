@@ -6,6 +6,7 @@ mod fault;
 mod formatting;
 mod gate;
 mod journal;
+mod kind;
 mod layout;
 mod opening;
 mod reading;
@@ -13,8 +14,9 @@ mod syncing;
 mod writing;
 
 pub use fault::JournalFault;
-pub use formatting::{format, kind_of};
+pub use formatting::{format, is_formatted};
 pub use journal::Journal;
+pub use kind::{FileKind, MAX_SETTINGS};
 
 #[cfg(test)]
 mod tests;

@@ -7,6 +7,7 @@ ghost use Rattle.pef_journal.specs.Journal.{IsAt, HasRead, LeavesAsRead, HasEnde
 
 use crate::JournalFault;
 use crate::journal::Journal;
+use crate::kind::FileKind;
 use crate::layout::{SETTINGS, head_of};
 use crate::syncing::synced_length;
 use board_core::Board;
@@ -16,7 +17,7 @@ impl Journal {
     /// settings. `NotFormatted` where the octets aren't those of a file of this kind, `DiskFault` only at a fault.
     pub fn open<B: Board>(
         board: &mut B,
-        kind: u8,
+        kind: FileKind,
         settings: &mut [u8],
     ) -> Result<Journal, JournalFault>
         requires { HasSettingsLength kind settings.old }
@@ -51,7 +52,7 @@ impl Journal {
         }
         let mut head = [0; 4];
         board.read_at(0, &mut head)?;
-        if head != head_of(kind, settings.len()) {
+        if head != head_of(kind.number, settings.len()) {
             return Err(JournalFault::NotFormatted);
         }
         board.read_at(SETTINGS, settings)?;

@@ -2,6 +2,7 @@
 ghost use Rattle.std.specs.Prelude.{◌≡◌, ◌⊎◌, ◌↔◌, ◌+◌, ◌≤◌, ◌<◌, ℕ, List, length, IsTrue, IfOk, OnOk, OnErr, IsErr, IsErrOf, Bool, true, false};
 ghost use Rattle.board_core.specs.Causes.{Rose};
 ghost use Rattle.board_core.specs.Board.{HasRoomFor, Reads};
+ghost use Rattle.pef_journal.specs.declared.kind.FileKind.{FileKind};
 ghost use Rattle.pef_journal.specs.Image.{IsCorruptAt};
 ghost use Rattle.pef_journal.specs.Journal.{IsAt, HasRead, HasEnded, GivesEntry, ReadsOn, Finds};
 
@@ -19,14 +20,14 @@ impl Journal {
         out: &mut Payload,
     ) -> Result<bool, JournalFault>
         ensures file { Reads (B.view board.old) (B.view board.new) }
-        ensures entry { IsTrue (B.view board.new).tells → (kind : ℕ) (settings : List ℕ) (before after : List (List ℕ)) →
+        ensures entry { IsTrue (B.view board.new).tells → (kind : FileKind) (settings : List ℕ) (before after : List (List ℕ)) →
             IsAt kind settings before after (B.view board.old) self.old →
             IfOk result (GivesEntry kind settings before after (B.view board.new) self.new out.new) }
         // where the file stands for entries, only the disk stops the reading
-        ensures whole { IsTrue (B.view board.new).tells → (kind : ℕ) (settings : List ℕ) (before after : List (List ℕ)) →
+        ensures whole { IsTrue (B.view board.new).tells → (kind : FileKind) (settings : List ℕ) (before after : List (List ℕ)) →
             IsAt kind settings before after (B.view board.old) self.old →
             OnErr result (IsErrOf result JournalFault.DiskFault) }
-        ensures reads { IsTrue (B.view board.new).tells → (kind : ℕ) (settings : List ℕ) (before : List (List ℕ)) →
+        ensures reads { IsTrue (B.view board.new).tells → (kind : FileKind) (settings : List ℕ) (before : List (List ℕ)) →
             HasRead kind settings before (B.view board.old) self.old →
             IfOk result (ReadsOn kind settings before (B.view board.new) self.new out.new) }
         // what is at the gate decides the answer

@@ -4,20 +4,31 @@ use std::alloc::Global;
 use std::process::Abort;
 use std::test::Fail;
 
-// The head and the settings of a console's file; its first gate is at 6.
-const CONSOLE: [u8; 6] = [0xA5, 2, 2, 0, 0x02, 0x6F];
+// A kind of file with two octets of settings, and one with three.
+const SHORT: FileKind = FileKind {
+    number: 2,
+    settings: 2,
+};
+
+const LONG: FileKind = FileKind {
+    number: 7,
+    settings: 3,
+};
+
+// The head and the settings of a file of the short kind; its first gate is at 6.
+const HEAD: [u8; 6] = [0xA5, 2, 2, 0, 0x02, 0x6F];
 
 // The octets that a crash leaves where it may leave any.
 const TORN: [u8; 4] = [0, 0x37, 0xA5, 0xFF];
 
-// The entries of a console's file, each behind its length, and the fault that ended the reading.
+// The entries of a file of the short kind, each behind its length, and the fault that ended the reading.
 fn read_all<B: Board>(
     alloc: Global,
     board: &mut B,
 ) -> Result<(Vec<u8>, Option<JournalFault>), Fail> {
     let mut read = Vec::new(alloc);
     let mut settings = [0; 2];
-    let mut journal = match Journal::open(board, 2, &mut settings) {
+    let mut journal = match Journal::open(board, SHORT, &mut settings) {
         Ok(journal) => journal,
         Err(fault) => return Ok((read, Some(fault))),
     };
@@ -35,21 +46,21 @@ fn read_all<B: Board>(
     Ok((read, Some(JournalFault::Full)))
 }
 
-// Makes a console's file stand for no entries, where it isn't formatted. True where it was.
-fn format_console<B: Board>(board: &mut B) -> Result<bool, Fail> {
-    let is_formatted = kind_of(board)?.is_some();
-    if !is_formatted {
-        format(board, 2, &[0x02, 0x6F])?;
+// Makes a file of the short kind that holds no entries, where it is formatted as neither kind. True where it was.
+fn format_short<B: Board>(board: &mut B) -> Result<bool, Fail> {
+    let was = is_formatted(board, &[LONG, SHORT])?;
+    if !was {
+        format(board, SHORT, &[0x02, 0x6F])?;
     }
-    Ok(is_formatted)
+    Ok(was)
 }
 
-// Adds the entry 07 08 behind the last one of a console's file.
+// Adds the entry 07 08 behind the last one of a file of the short kind.
 fn add<B: Board>(board: &mut B) -> Result<(), Fail> {
     let mut payload = Payload::new();
     let _ = payload.extend(&[7, 8]);
     let mut settings = [0; 2];
-    let mut journal = Journal::open(board, 2, &mut settings)?;
+    let mut journal = Journal::open(board, SHORT, &mut settings)?;
     let mut last = Payload::new();
     'gates: for _ in 0..64 {
         if !journal.entry(board, &mut last)? {
@@ -60,9 +71,9 @@ fn add<B: Board>(board: &mut B) -> Result<(), Fail> {
     Ok(())
 }
 
-// A console's file with these octets from its first gate on.
-fn console_with(alloc: Global, behind: &[u8]) -> Result<MemBoard, Fail> {
-    let mut file = CONSOLE.to_vec(alloc)?;
+// A file of the short kind with these octets from its first gate on.
+fn file_with(alloc: Global, behind: &[u8]) -> Result<MemBoard, Fail> {
+    let mut file = HEAD.to_vec(alloc)?;
     file.extend_from_slice(behind)?;
     Ok(MemBoard::new(alloc, file.as_slice(), &[], &[])?)
 }
@@ -97,7 +108,7 @@ fn a_file_is_read_to_its_first_closed_gate(rt: HostRuntime) -> Result<(), Fail> 
         (&[], &[], Some(JournalFault::NotFormatted)),
     ];
     for (behind, entries, fault) in cases.iter() {
-        let mut board = console_with(alloc, behind)?;
+        let mut board = file_with(alloc, behind)?;
         let (read, found) = read_all(alloc, &mut board)?;
         assert_eq!(rt; read.as_slice(), *entries);
         assert_eq!(rt; found, *fault);
@@ -151,12 +162,38 @@ fn a_crash_in_format_leaves_no_entries_or_no_format(rt: HostRuntime) -> Result<(
     ];
     for (file, whole) in cases.iter() {
         let mut board = MemBoard::new(alloc, file, &[], &[])?;
-        assert!(rt; !format_console(&mut board)?);
+        assert!(rt; !format_short(&mut board)?);
         assert_eq!(rt; board.octets(), *whole);
         for torn in TORN {
             crashes_leave(&rt, alloc, &board, torn, &[], &[], true)?;
         }
-        assert!(rt; format_console(&mut board)?);
+        assert!(rt; format_short(&mut board)?);
+    }
+    Ok(())
+}
+
+#[test]
+fn a_file_is_formatted_as_the_kinds_that_are_given(rt: HostRuntime) -> Result<(), Fail> {
+    let alloc = rt.alloc();
+    // whether each file is formatted as the one kind, as the other, and as either of the two
+    let cases: [(&[u8], bool, bool); 9] = [
+        (&[], false, false),
+        (&[0xA5, 2, 2, 0, 1, 1], false, false),
+        (&[0xA5, 2, 2, 0, 1, 1, 0], true, false),
+        (&[0xA5, 2, 3, 0, 1, 1, 1, 0], false, false),
+        (&[0xA5, 2, 2, 1, 1, 1, 1, 0], false, false),
+        (&[0xA5, 7, 3, 0, 1, 1, 1, 0], false, true),
+        (&[0xA5, 7, 3, 0, 1, 1, 1], false, false),
+        (&[0xA5, 3, 2, 0, 1, 1, 0], false, false),
+        (&[0, 2, 2, 0, 1, 1, 0], false, false),
+    ];
+    for (file, is_short, is_long) in cases {
+        let mut board = MemBoard::new(alloc, file, &[], &[])?;
+        assert_eq!(rt; is_formatted(&mut board, &[SHORT])?, is_short);
+        assert_eq!(rt; is_formatted(&mut board, &[LONG])?, is_long);
+        assert_eq!(rt; is_formatted(&mut board, &[SHORT, LONG])?, is_short || is_long);
+        assert!(rt; !is_formatted(&mut board, &[])?);
+        assert_eq!(rt; board.octets(), file);
     }
     Ok(())
 }
@@ -173,7 +210,7 @@ fn a_crash_in_append_leaves_the_entries_with_the_new_one_or_without(
         (&[0x37, 1, 0, 4, 0xA5, 0xA5, 0xA5], &[], &[2, 7, 8]),
     ];
     for (behind, before, after) in cases.iter() {
-        let mut board = console_with(alloc, behind)?;
+        let mut board = file_with(alloc, behind)?;
         add(&mut board)?;
         for torn in TORN {
             crashes_leave(&rt, alloc, &board, torn, before, after, false)?;
@@ -203,9 +240,9 @@ fn an_append_makes_four_calls(rt: HostRuntime) -> Result<(), Fail> {
         &[0xA5, 1, 0, 3, 0xA5, 2, 0, 5, 6, 0],
     ];
     for behind in cases {
-        let mut read = console_with(alloc, behind)?;
+        let mut read = file_with(alloc, behind)?;
         let _ = read_all(alloc, &mut read)?;
-        let mut added = console_with(alloc, behind)?;
+        let mut added = file_with(alloc, behind)?;
         add(&mut added)?;
         assert_eq!(rt;
             calls_of(alloc, &added)?,

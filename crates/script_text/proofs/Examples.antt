@@ -6,7 +6,6 @@ use Rattle.script_text.specs.declared.head.Head.{Head}
 use Rattle.script_text.specs.Lines.{lines_of, behind_line, behind_lines, ends}
 use Rattle.script_text.specs.Forms.{words_of, octets_exactly, octets_up_to, address_of}
 use Rattle.script_text.specs.Script.{head_of, said, said_of, bad_line, lines_in}
-use Rattle.script_text.specs.Settings.{settings_of}
 
 -- both ends of a line, an empty line, a 0Dh within a line, and a last line without its end
 lines : lines_of (codes "a\r\nb\n\nc\rd\r\r\ne\r") ≡ codes "a" ∷ codes "b" ∷ [] ∷ codes "c\rd\r" ∷ codes "e\r" ∷ []
@@ -133,17 +132,3 @@ no_head = refl
 three_lines : lines_in (said_of (codes "script") tick_of (codes "script 00000001 1\ntick\nend\nmore")) ≡ 3
 unfolding tick_of decode_pairs
 three_lines = refl
-
-settings : settings_of (codes "filter = \"80200010ffff04FF010400000000000000000000\"\n") ≡ Some (
-    0 ∷ 0 ∷ 0 ∷ 0 ∷ 0 ∷ 0 ∷ 0 ∷ 0 ∷ 0 ∷ 0 ∷ 0 ∷ 0 ∷ 0 ∷ 0 ∷ 0 ∷ 0 ∷ 0 ∷ 0 ∷ 0 ∷ 0 ∷ 0 ∷ 0 ∷ 0 ∷ 0 ∷ 0 ∷ 0 ∷ 162 ∷ 0 ∷ 162 ∷ 0 ∷ 162 ∷ 0 ∷ 1 ∷ 63 ∷ 0
-    ∷ 128 ∷ 32 ∷ 0 ∷ 16 ∷ 255 ∷ 255 ∷ 4 ∷ 255 ∷ 1 ∷ 4 ∷ 0 ∷ 0 ∷ 0 ∷ 0 ∷ 0 ∷ 0 ∷ 0 ∷ 0 ∷ 0 ∷ 0 ∷ [])
-unfolding decode_pairs
-settings = refl
-
-other_end : settings_of (codes "filter = \"80200010ffff04ff010400000000000000000000\"\r\n") ≡ None
-unfolding decode_pairs
-other_end = refl
-
-too_short : settings_of (codes "filter = \"80200010ffff04ff0104000000000000000000\"") ≡ None
-unfolding decode_pairs
-too_short = refl

@@ -2,7 +2,6 @@ pub mod Read
 pub mod LinesLemmas
 pub mod WordLemmas
 pub mod Spelling
-pub mod SettingsLemmas
 pub mod LastOctet
 pub mod SpelledLines
 pub mod SpelledScripts

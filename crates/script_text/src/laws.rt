@@ -1,8 +1,7 @@
-// Laws: each definition of a text's parts holds exactly of the texts that spell it.
+//! Laws: each definition of a text's parts holds exactly of the texts that spell it.
 ghost use Rattle.std.specs.Prelude.{◌≡◌, ◌↔◌, ℕ, List, Option, Some, None};
 ghost use Rattle.script_text.specs.Lines.{lines_of, SpellsLines};
 ghost use Rattle.script_text.specs.Script.{head_of, SpellsHead, said_of, said, IsWholeScript, HasBadLine, HasNoHead};
-ghost use Rattle.script_text.specs.Settings.{settings_of, settings_octets, SpellsSettings};
 
 use crate::head::Head;
 
@@ -24,9 +23,4 @@ pub fn script_spelled<I>()
     ensures bad { (word : List ℕ) (item_of : List ℕ → Option I) (text : List ℕ) (id count : ℕ) (items : List I) (number : ℕ) →
         said_of word item_of text ≡ Some (said id count items (Some number)) ↔ HasBadLine word item_of id count items number text }
     ensures no_head { (word : List ℕ) (item_of : List ℕ → Option I) (text : List ℕ) → said_of word item_of text ≡ None ↔ HasNoHead word (lines_of text) }
-{}
-
-/// A law: a text gives settings exactly where it is so spelled.
-pub fn settings_spelled()
-    ensures { (text octets : List ℕ) → settings_of text ≡ Some octets ↔ ((filter : List ℕ) × SpellsSettings filter text × (octets ≡ settings_octets filter)) }
 {}

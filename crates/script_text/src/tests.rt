@@ -58,17 +58,6 @@ fn event(line: &[u8]) -> Option<[u8; 16]> {
 
 const EVENT: [u8; 16] = [1, 0, 2, 0, 202, 154, 59, 32, 0, 4, 4, 48, 1, 82, 16, 32];
 
-// The defaults of the PEF settings, and then the filter.
-const SETTINGS: SettingsOctets = [
-    0, 0, 0, 0, 0, 0, 0, 0, 0, 0, 0, 0, 0, 0, 0, 0, // system GUID
-    0, 0, 0, 0, // agent address
-    0, 0, 0, 0, // manufacturer ID
-    0, 0, // system ID
-    162, 0, 162, 0, 162, 0, // ports
-    1, 63, 0, // PEF control, actions, startup delay
-    0x80, 0x20, 0, 0x10, 0xff, 0xff, 4, 0xff, 1, 4, 0, 0, 0, 0, 0, 0, 0, 0, 0, 0,
-];
-
 #[test]
 fn a_head_has_its_word_an_id_and_a_count(rt: HostRuntime) {
     let rows = [
@@ -271,42 +260,6 @@ fn a_script_is_read_line_by_line(rt: HostRuntime) {
     assert_eq!(rt; reader.line(&mut source, &mut line), Ok(Found::Line));
     assert_eq!(rt; reader.line(&mut source, &mut line), Err(SourceFailed));
     assert_eq!(rt; source.faults, 1);
-}
-
-#[test]
-fn a_settings_text_is_one_line(rt: HostRuntime) {
-    let alloc = rt.alloc();
-    let line = "filter = \"80200010ffff04FF010400000000000000000000\"";
-    for end in ["", "\n"] {
-        let text = format!(in alloc; "{line}{end}").expect(&rt, "memory");
-        let mut source = in_pieces(text.as_bytes(), 20);
-        assert_eq!(rt;
-            read_settings(alloc, &mut source),
-            Ok(Some(SETTINGS)),
-            "{text}"
-        );
-    }
-    for text in [
-        "",
-        "\n",
-        "filter = \"80200010ffff04FF0104000000000000000000\"",
-        "filter = \"80200010ffff04FF01040000000000000000000000\"",
-        "filter = \"80200010ffff04FF01040000000000000000000g\"",
-        "filter = \"80200010ffff04FF010400000000000000000000\"\r\n",
-        "filter = \"80200010ffff04FF010400000000000000000000\"\n\n",
-        "filter = 80200010ffff04FF010400000000000000000000",
-        "filter=\"80200010ffff04FF010400000000000000000000\"",
-        " filter = \"80200010ffff04FF010400000000000000000000\"",
-    ] {
-        assert_eq!(rt;
-            read_settings(alloc, &mut in_pieces(text.as_bytes(), 20)),
-            Ok(None),
-            "{text}"
-        );
-    }
-    let mut source = in_pieces(line.as_bytes(), 20);
-    source.fails = 1;
-    assert_eq!(rt; read_settings(alloc, &mut source), Err(TextFault::Source));
 }
 
 #[test]

@@ -1,4 +1,4 @@
-// A whole text of bounded length.
+//! A whole text of bounded length.
 ghost use Rattle.std.specs.Prelude.{◌≡◌, ◌≤◌, ◌+◌, ◌-◌, ◌*◌, ◌<◌, ℕ, List, Option, Some, Err, IfOk, OnErr, length};
 ghost use Rattle.board_core.specs.Causes.{Rose};
 ghost use Rattle.script_text.specs.Whole.{IsWhole};

@@ -16,14 +16,14 @@ returns-in_err-journal g c =
     let o = c.in_err-journal.ensures in
     let q = err_from_is_err_and c.from_residual.result c.from_residual.ensures.1 in
     rw (q.1, q.2) (journal_fails g.M.Machine.rules g.M.Machine.view (g.B.Board.view c.args.board.now) (g.B.Board.view c.open.new.board) o.run o.octets c.in_err-journal.field-0.0 o.synced
-    (λ t e. subst (λ k. image.IsForKind k (g.B.Board.view c.args.board.now).octets → ⊥) c.kind.ensures (o.unformatted t (cc e))) (λ e. o.disk (cc e)) (λ not. o.counted (λ e. not (cc e))) (⊎_elim (λ e. inl (cc e)) (λ e. inr (cc e)) o.other))
+    (λ t e. subst (λ k. image.IsForKind k (g.B.Board.view c.args.board.now).octets → ⊥) c.kind.ensures.kind (o.unformatted t (cc e))) (λ e. o.disk (cc e)) (λ not. o.counted (λ e. not (cc e))) (⊎_elim (λ e. inl (cc e)) (λ e. inr (cc e)) o.other))
 
 pub returns-in_err-machine : goal.returns-in_err-machine
 returns-in_err-machine g c =
     let o = c.in_ok-journal.ensures in
     let q = err_from_is_err_and c.from_residual-in_err-machine.result c.from_residual-in_err-machine.ensures.1 in
     rw (q.1, q.2) (open_fails g.M.Machine.rules g.M.Machine.view (g.B.Board.view c.args.board.now) (g.B.Board.view c.open.new.board) o.run o.octets (Memory c.in_err-machine.field-0.0) o.synced
-    (λ t. subst (λ k. image.IsForKind k (g.B.Board.view c.args.board.now).octets) c.kind.ensures (subst (image.IsForKind c.kind.result) (o.octets t) (c.open.new.settings, (o.read t).rest, (o.read t).file))) (λ t Z H lawful stands. tt) (λ e. absurd (cc e)) (λ not. o.counted (λ e. cc e)))
+    (λ t. subst (λ k. image.IsForKind k (g.B.Board.view c.args.board.now).octets) c.kind.ensures.kind (subst (image.IsForKind c.kind.result) (o.octets t) (c.open.new.settings, (o.read t).rest, (o.read t).file))) (λ t Z H lawful stands. tt) (λ e. absurd (cc e)) (λ not. o.counted (λ e. cc e)))
 
 pub returns-in_err-entry : goal.returns-in_err-entry
 returns-in_err-entry g c =

@@ -1,4 +1,4 @@
-use Rattle.std.proofs.Common.{◌≡◌, inr, ◌+◌, ◌<◌, Some, IsTrue, sym, ◌∙◌, ap, arith, rules, take, drop, length}
+use Rattle.std.proofs.Common.{◌≡◌, inr, ◌+◌, ◌<◌, IsTrue, sym, ◌∙◌, ap, arith, rules, take, drop, length}
 use Rattle.std.proofs.lemmas.List.{append-nil}
 use Rattle.pef_journal.specs.Image.{HasHeader}
 use Rattle.pef_journal.specs.Journal.{LeavesAsRead}
@@ -29,11 +29,11 @@ read g c = λ tells.
     let same : length Y ≡ length c.args.settings.now = c.read_at-2.auto.into in
     let head_is : c.read_at.new.into ≡ c.head_of.result = search (rules, c.if-ne.ensures) in
     let read_is : c.read_at.new.into ≡ take 4 w.octets = c.in_ok-read_at.ensures.octets tells_x ∙ ap (λ k. take k w.octets) c.read_at.auto.into in
-    let heads : take 4 file ≡ head c.args.kind (length Y) = ap (take 4) (octets_y ∙ octets_x) ∙ sym read_is ∙ head_is ∙ c.head_of.ensures ∙ ap (head c.args.kind) (sym same) in
+    let heads : take 4 file ≡ head c.args.kind.number (length Y) = ap (take 4) (octets_y ∙ octets_x) ∙ sym read_is ∙ head_is ∙ c.head_of.ensures ∙ ap (head c.args.kind.number) (sym same) in
     let settings : Y ≡ take (length Y) (drop 4 file) = c.in_ok-read_at-2.ensures.octets tells ∙ ap (λ l. take (length Y) (drop 4 l)) (sym octets_y) in
     let size : c.in_ok-file_length.file_length ≡ length file = c.in_ok-file_length.ensures.length tells_w ∙ ap length (sym (octets_y ∙ octets_x ∙ octets_w)) in
     let long : 4 + length Y < length file = omega (arith, c.if-file_length-first_gate.false, size, same) in
-    let has : HasHeader c.args.kind Y (drop (4 + length Y) file) file = has_header c.args.kind Y file (c.requires ∙ ap Some (sym same)) heads settings long in
+    let has : HasHeader c.args.kind Y (drop (4 + length Y) file) file = has_header c.args.kind Y file (c.requires.0, same ∙ c.requires.1) heads settings long in
     record {
       rest = drop (4 + length Y) file;
       file = has;

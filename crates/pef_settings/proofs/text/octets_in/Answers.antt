@@ -1,8 +1,8 @@
 use Rattle.std.proofs.Common.{Some, sym, ◌∙◌, ap}
 use Rattle.hex.specs.Hex.{decode_sized}
 use Rattle.script_text.specs.Lines.{without_last}
-use Rattle.script_text.proofs.SettingsLemmas.{line_gives, decoded_ok, decoded_err}
-use Rattle.script_text.proofs.settings.settings_of.Goals as goal
+use Rattle.pef_settings.proofs.SettingsLemmas.{line_gives, decoded_ok, decoded_err}
+use Rattle.pef_settings.proofs.text.octets_in.Goals as goal
 
 pub returns-in-Ok : goal.returns-in-Ok
 returns-in-Ok c =

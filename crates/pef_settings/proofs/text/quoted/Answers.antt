@@ -1,7 +1,7 @@
 use Rattle.std.proofs.lemmas.Slice.Eq.{strip_prefix_is, strip_suffix_is}
 use Rattle.std.proofs.lemmas.Bool.Decides.{Decides-eqb}
-use Rattle.script_text.proofs.SettingsLemmas.{quoted_match}
-use Rattle.script_text.proofs.settings.quoted.Goals as goal
+use Rattle.pef_settings.proofs.SettingsLemmas.{quoted_match}
+use Rattle.pef_settings.proofs.text.quoted.Goals as goal
 
 pub returns : goal.returns
 returns c =

@@ -1,8 +1,13 @@
--- The settings text, and the settings octets that it gives.
+-- A controller's settings: the kind of its file, the settings octets, and the text that gives them.
 use Rattle.std.specs.Prelude.{◌≡◌, ◌⊎◌, ℕ, bytes_eq, codes, if◌then◌else◌, List, [], ◌∷◌, ◌++◌, drop, replicate, Option, Some, None, Result, Ok, Err}
 use Rattle.hex.specs.Hex.{decode_sized}
 use Rattle.hex.specs.declared.error.FromHexError.{FromHexError}
+use Rattle.pef_journal.specs.declared.kind.FileKind.{FileKind}
 use Rattle.script_text.specs.Lines.{without_last}
+
+-- the kind of a controller's state file
+abbrev pub controller : FileKind
+controller = record { number = 1; settings = 55 }
 
 -- The 55 settings octets: system GUID, agent address, manufacturer ID and system ID are 0 each, the trap port and the two
 -- OEM alert ports are 162, PEF control is 01h, the PEF action control mask 3Fh, the startup delay 0 (parameters of IPMI 2.0,

@@ -1,13 +1,11 @@
 -- Settings texts and their lines.
-use Rattle.std.proofs.Common.{◌≡◌, ◌≢◌, ◌⊎◌, inl, inr, ℕ, Bool, true, false, bytes_eq, codes, if◌then◌else◌, List, [], ◌∷◌, ◌++◌, length, drop, Option, Some, None, Result, Ok, Err, MatchOption, MatchResult, Bor, ◌+◌, ◌<◌, ◌≤◌, length-append, arith, refl, sym, ◌∙◌, ap}
+use Rattle.std.proofs.Common.{◌≡◌, ◌≢◌, ◌⊎◌, inl, inr, ℕ, Bool, true, false, bytes_eq, codes, if◌then◌else◌, List, [], ◌∷◌, ◌++◌, drop, Option, Some, None, Result, Ok, Err, MatchOption, MatchResult, Bor, refl, sym, ◌∙◌, ap}
 use Rattle.hex.specs.Hex.{decode_sized}
-use Rattle.hex.proofs.HexLemmas.{decode_sized-ok, decode_pairs-ok}
 use Rattle.hex.specs.declared.error.FromHexError.{FromHexError}
 use Rattle.script_text.specs.Lines.{without_last}
-use Rattle.script_text.specs.Whole.{text_limit}
-use Rattle.script_text.proofs.LastOctet.{without_last-push, without_last-other, without_last-is}
-use Rattle.script_text.proofs.Spelling.{decodes_pairs, same_octets, same_test}
-use Rattle.script_text.specs.Settings.{settings_octets, settings_line, SpellsSettings, quoted, settings_with, settings_of_line, settings_of}
+use Rattle.script_text.proofs.LastOctet.{without_last-push, without_last-other}
+use Rattle.script_text.proofs.Spelling.{same_octets, same_test}
+use Rattle.pef_settings.specs.Settings.{settings_octets, settings_line, SpellsSettings, quoted, settings_with, settings_of_line, settings_of}
 
 quoted_line : (digits : List ℕ) → quoted (settings_line digits) ≡ digits
 quoted_line digits = without_last-push 34 digits
@@ -26,23 +24,7 @@ line_refused line none = by (bytes_eq line (settings_line (quoted line))) (same_
     by true same = absurd (none (quoted line) (same refl))
     by false same = refl
 
--- the law
-with_some : (t : Bool) (r : Result (List ℕ) FromHexError) (octets : List ℕ) → (if t then settings_with r else None) ≡ Some octets
-    → (filter : List ℕ) × (t ≡ true) × (r ≡ Ok filter) × (octets ≡ settings_octets filter)
-with_some true (Ok filter) octets e = (filter, refl, refl, cc)
-with_some true (Err f) octets e = absurd (cc e)
-with_some false r octets e = absurd (cc e)
-
-ends : (text line spelled : List ℕ) → line ≡ spelled → (text ≡ line) ⊎ (text ≡ line ++ 10 ∷ []) → (text ≡ spelled) ⊎ (text ≡ spelled ++ 10 ∷ [])
-ends text line spelled is (inl same) = inl (same ∙ is)
-ends text line spelled is (inr shorter) = inr (shorter ∙ ap (λ l. l ++ 10 ∷ []) is)
-
-pub gives_spelled : (text octets : List ℕ) → settings_of text ≡ Some octets → (filter : List ℕ) × SpellsSettings filter text × (octets ≡ settings_octets filter)
-gives_spelled text octets gives =
-    let line = without_last 10 text in
-    let s = with_some (bytes_eq line (settings_line (quoted line))) (decode_sized (quoted line) 20) octets gives in
-    (s.0, (quoted line, s.2, ends text line (settings_line (quoted line)) (same_octets line (settings_line (quoted line)) s.1) (without_last-is 10 text)), s.3)
-
+-- the law, back
 line_of_spelled : (text digits : List ℕ) → (text ≡ settings_line digits) ⊎ (text ≡ settings_line digits ++ 10 ∷ []) → without_last 10 text ≡ settings_line digits
 line_of_spelled text digits (inl same) = ap (without_last 10) same ∙ without_last-other 10 34 (codes "filter = \"" ++ digits) (λ e. cc e)
 line_of_spelled text digits (inr longer) = ap (without_last 10) longer ∙ without_last-push 10 (settings_line digits)
@@ -64,24 +46,3 @@ decoded_ok (Err e) answer out m is = absurd (cc (sym m ∙ is))
 pub decoded_err : (r : Result (List ℕ) FromHexError) (answer : Result Unit FromHexError) (out : List ℕ) (e : FromHexError) → MatchResult r (λ bytes. (answer ≡ Ok tt) × (out ≡ bytes)) (λ e. answer ≡ Err e) → answer ≡ Err e → settings_with r ≡ None
 decoded_err (Ok bytes) answer out e m is = absurd (cc (sym m.0 ∙ is))
 decoded_err (Err f) answer out e m is = refl
-
--- a longer text than one that is read whole gives none
-spelled_short : (text filter : List ℕ) → SpellsSettings filter text → length text ≤ 53
-spelled_short text filter (digits, decodes, is) =
-    let twenty = decode_sized-ok digits 20 filter decodes in
-    let pairs = (decode_pairs-ok 0 digits filter (decodes_pairs digits filter 20 decodes)).1 in
-    by is (omega (arith, twenty, pairs))
-  where
-    line_length : length (settings_line digits) ≡ length digits + 11
-    line_length = let l = length-append digits (codes "\"") in omega (arith, l)
-
-    by : (text ≡ settings_line digits) ⊎ (text ≡ settings_line digits ++ 10 ∷ []) → length digits ≡ 40 → length text ≤ 53
-    by (inl same) forty = let l = ap length same in omega (arith, l, line_length, forty)
-    by (inr longer) forty = let l = ap length longer in let k = length-append (settings_line digits) (10 ∷ []) in omega (arith, l, k, line_length, forty)
-
-pub long_gives : (text : List ℕ) → text_limit < length text → None ≡ settings_of text
-long_gives text long = by (settings_of text) (λ octets e. gives_spelled text octets e)
-  where
-    by : (o : Option (List ℕ)) → ((octets : List ℕ) → o ≡ Some octets → (filter : List ℕ) × SpellsSettings filter text × (octets ≡ settings_octets filter)) → None ≡ o
-    by None spelled = refl
-    by (Some octets) spelled = let s = spelled octets refl in let short = spelled_short text s.0 s.1 in absurd (omega (arith, short, long))

@@ -1,0 +1,2 @@
+pub mod SettingsLemmas
+mod Examples
