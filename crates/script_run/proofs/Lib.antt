@@ -7,3 +7,5 @@ mod PlayLemmas
 mod TopLemmas
 pub mod EndLemmas
 mod PerformLemmas
+mod Shelf
+mod InMemory

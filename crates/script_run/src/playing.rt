@@ -13,6 +13,7 @@ ghost use Rattle.script_run.specs.Course.{TakesCourse, items_on};
 ghost use Rattle.script_run.specs.Playing.{Plays};
 
 use crate::course::{Course, course_of};
+use crate::reading::read_line;
 use crate::settling::{settle_and_say, take_one};
 use crate::stop::{LineStop, ScriptStop};
 use crate::taking::{pass_over, take_lines};
@@ -55,7 +56,7 @@ fn first_line<M: Scripted, S: Source>(reader: &mut Reader, source: &mut S) -> Re
     ensures no_step { (stop : _) → IsErrOf result (LineStop.Step stop) → ⊥ }
 {
     let mut line = LineBuffer::new();
-    match reader.line(source, &mut line) {
+    match read_line(reader, source, &mut line) {
         Ok(Found::Line) => match read_head(M::word(), line.as_slice()) {
             Some(head) => Ok(head),
             None => Err(LineStop::Line(1)),

@@ -8,6 +8,7 @@ ghost use Rattle.script_run.specs.Items.{rest_of};
 ghost use Rattle.script_run.specs.Going.{kind, world};
 ghost use Rattle.script_run.specs.Lines.{Input, input, Unread, Ran, Reads, Answers, HasRead, GivesItem, LineGives, IsReadyFor};
 
+use crate::reading::read_line;
 use crate::settling::take_one;
 use crate::stop::LineStop;
 use board_core::{Board, Sink, Source};
@@ -95,7 +96,7 @@ fn next_item<M: Scripted, S: Source>(
     ensures reads { Reads (input reader.old (S.left source.old) (S.faults source.old)) (input reader.new (S.left source.new) (S.faults source.new)) result }
 {
     let mut line = LineBuffer::new();
-    match reader.line(source, &mut line) {
+    match read_line(reader, source, &mut line) {
         Ok(Found::Line) => item_at::<M>(line.as_slice(), left, number),
         Ok(Found::TooLong) => Err(LineStop::Line(number)),
         Ok(Found::End) => Err(LineStop::Line(number)),
