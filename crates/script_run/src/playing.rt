@@ -8,7 +8,7 @@ ghost use Rattle.pef_engine.specs.Engine.{IsLive, HasPlace, ShowsSome};
 ghost use Rattle.script_text.specs.Lines.{lines_of};
 ghost use Rattle.script_text.specs.Script.{given};
 ghost use Rattle.script_run.specs.Going.{kind, world};
-ghost use Rattle.script_run.specs.Lines.{input, Unread, Ran, Reads, Answers, HasRead, GivesHead};
+ghost use Rattle.script_run.specs.Lines.{input, Unread, Ran, Reads, Answers, HasRead, up_to_behind, GivesHead};
 ghost use Rattle.script_run.specs.Course.{TakesCourse, items_on};
 ghost use Rattle.script_run.specs.Playing.{Plays};
 
@@ -130,7 +130,7 @@ fn end_over<M: Scripted, S: Source>(
 ) -> Result<u32, LineStop>
     requires count { head.count ≤ 1000000 }
     ensures answers { (text : List ℕ) → Unread (input reader.old (S.left source.old) (S.faults source.old)) text → Answers (given M.scripts.item_of (lines_of text) head.count 2).bad result }
-    ensures far { (text : List ℕ) → Unread (input reader.old (S.left source.old) (S.faults source.old)) text → HasRead (head.count + 1) text (input reader.new (S.left source.new) (S.faults source.new)) result }
+    ensures far { (text : List ℕ) → Unread (input reader.old (S.left source.old) (S.faults source.old)) text → HasRead (up_to_behind (given M.scripts.item_of (lines_of text) head.count 2).bad (head.count + 1)) text (input reader.new (S.left source.new) (S.faults source.new)) result }
     ensures reads { Reads (input reader.old (S.left source.old) (S.faults source.old)) (input reader.new (S.left source.new) (S.faults source.new)) result }
     ensures no_step { (stop : _) → IsErrOf result (LineStop.Step stop) → ⊥ }
     ensures none { IfOk result (λ n. n ≡ 0) }
