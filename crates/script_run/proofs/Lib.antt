@@ -9,3 +9,4 @@ pub mod EndLemmas
 mod PerformLemmas
 mod Shelf
 mod InMemory
+mod ShelfRoom

@@ -16,6 +16,8 @@ use Rattle.pef_engine.specs.Marks.{mark_octets}
 use Rattle.pef_engine.specs.Rules.{Rules, Allowed, Lawful}
 use Rattle.pef_engine.specs.MachineView.{MachineView, KeepsAllButReady, Agrees}
 use Rattle.pef_engine.specs.Scripts.{ScriptRules, MayCome, IsScripted, script_of}
+use Rattle.script_text.specs.Script.{Said, said}
+use Rattle.script_run.specs.Going.{Kind, kind}
 
 -- how many an item puts on the shelf
 abbrev pub put_by : ScriptStep → ℕ
@@ -165,3 +167,14 @@ shelf_scripted = record {
 pub shelf_kept : (script : Option Script) (held room more_held more_room : ℕ) → more_held ≡ held → KeepsAllButReady (shelf_view script held room) (shelf_view script more_held more_room)
 shelf_kept script held room more_held more_room same = subst (λ n. KeepsAllButReady (shelf_view script held room) (shelf_view script n more_room)) (sym same)
     (record { shows = λ Z H s. s; due = refl; allowed = λ e. (λ a. a, λ a. a); over = λ item. (λ a. a, λ a. a); left = refl })
+
+abbrev pub shelf_settings : List ℕ
+shelf_settings = 0 ∷ 0 ∷ []
+
+-- the kind of machine, of which the conditions of a run need the rules and the scripts alone
+abbrev pub shelf_kind : Kind ScriptStep ℕ
+shelf_kind = kind shelf_rules (λ held. shelf_view None held 0) shelf_scripts
+
+-- a script of so many items
+abbrev pub script_of_puts : ℕ → List ScriptStep → Said ScriptStep
+script_of_puts count puts = said 1 count puts None

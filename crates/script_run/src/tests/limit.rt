@@ -1,4 +1,12 @@
 // A machine's own limit: 9 comes at the item beyond it and at a file that passed it, and at nothing else.
+ghost use Rattle.std.specs.Prelude.{◌≡◌, ℕ, List, [], ◌∷◌, Some};
+ghost use Rattle.board_core.specs.declared.step.Told.{Told};
+ghost use Rattle.pef_engine.specs.declared.script.ScriptStep.TheVariants.{Takes};
+ghost use Rattle.script_run.specs.Items.{text_says, items_of_text};
+ghost use Rattle.script_run.specs.Room.{LacksRoom};
+ghost use Rattle.script_run.specs.Top.{MayEnd};
+ghost use Rattle.script_run.specs.Shelf.{shelf_rules, shelf_scripts, shelf_kind, shelf_settings, script_of_puts};
+
 use super::shelf::Shelf;
 use crate::run;
 use board_core::{MemBoard, MemSink, MemSource};
@@ -65,6 +73,13 @@ fn check(rt: &impl Abort, alloc: Global, case: &Case<'_>) {
     assert_eq!(rt; out.written(), case.written.as_bytes());
     assert_eq!(rt; board.octets(), after.as_slice());
 }
+
+// The conditions under which a run ends with 0 are met by a script of three items, and the cause of 9 is there with the fourth.
+fn three_have_room()
+    ensures three { (text : List ℕ) → text_says shelf_scripts text ≡ Some (script_of_puts 3 (Takes ∷ Takes ∷ Takes ∷ [])) → MayEnd shelf_kind shelf_settings [] text }
+    ensures four { (text : List ℕ) (tolds : List Told) → text_says shelf_scripts text ≡ Some (script_of_puts 4 (Takes ∷ Takes ∷ Takes ∷ Takes ∷ [])) →
+        LacksRoom shelf_rules shelf_settings [] (items_of_text shelf_scripts text []) tolds }
+{}
 
 #[test]
 fn a_run_is_full_exactly_at_the_item_beyond_the_limit(rt: HostRuntime) {
