@@ -56,31 +56,6 @@ module _ {I : Type 0} (rules : Rules I) (Z : List ℕ) where
     issued = inl refl;
   }
 
-  -- Kept goes on over one more item where no step is in flight
-  pub kept_more_item : (H K : List (Entry I)) (item : I) (T : List Step) → rules.pending Z (H ++ K) ≡ None → Kept rules Z H K T → Kept rules Z H (K ++ Item item ∷ []) T
-  kept_more_item H K item T idle kept = record {
-    stored = kept.stored;
-    prescribes = ap (prescribed rules Z) (sym (append_assoc H K (Item item ∷ []))) ∙ prescribed-append (H ++ K) (Item item ∷ []) ∙ append-nil (prescribed rules Z (H ++ K)) ∙ kept.prescribes;
-    issued = elim kept.issued [
-      | inl all ↦ inl all
-      | inr more ↦ absurd (let clash : Some more.0 ≡ None = sym more.1 ∙ idle in cc clash)
-    ];
-  }
-
-  -- and over the outcome of the step that was in flight
-  pub kept_more_outcome : (H K : List (Entry I)) (step : Step) (told : Told) (T : List Step) → rules.pending Z (H ++ K) ≡ Some step
-      → prescribed rules Z (H ++ K) ≡ prescribed rules Z H ++ T → Kept rules Z H (K ++ Outcome told ∷ []) (T ++ step ∷ [])
-  kept_more_outcome H K step told T due is = record {
-    stored = T ++ step ∷ [];
-    prescribes =
-        ap (prescribed rules Z) (sym (append_assoc H K (Outcome told ∷ [])))
-        ∙ prescribed-append (H ++ K) (Outcome told ∷ [])
-        ∙ ap (λ p. prescribed rules Z (H ++ K) ++ (option_list p ++ [])) due
-        ∙ ap (λ l. l ++ step ∷ []) is
-        ∙ append_assoc (prescribed rules Z H) T (step ∷ []);
-    issued = inl refl;
-  }
-
   -- behind a history at which none is due comes the item
   pub run_item : (H : List (Entry I)) (item : I) → rules.pending Z H ≡ None → crash_free_run rules Z H (item ∷ []) [] ≡ Item item ∷ []
   run_item H item idle = ap (λ p. crash_free_turn (crash_free_turns 0 rules Z) p H (item ∷ []) []) idle

@@ -130,7 +130,7 @@ ReplaysOne {I} rules new Z H octets gate (Ok _) =
     (e : Entry I) × Decodes rules octets (Some e) × Allowed rules Z H e × (IsOver rules Z H e → ⊥) × new.shows Z (H ++ e ∷ [])
 ReplaysOne {I} rules new Z H octets gate (Err (Corrupt at)) = (at ≡ gate) × ((e : Entry I) → rules.is_entry e → rules.encode e ≡ octets → Allowed rules Z H e → ⊥)
 ReplaysOne {I} rules new Z H octets gate (Err Full) = (e : Entry I) × Decodes rules octets (Some e) × Allowed rules Z H e × IsOver rules Z H e
-ReplaysOne rules new Z H octets gate (Err (Memory error)) = IsTrue rules.takes_memory
+ReplaysOne {I} rules new Z H octets gate (Err (Memory error)) = (e : Entry I) × Decodes rules octets (Some e) × Allowed rules Z H e × IsTrue rules.takes_memory
 ReplaysOne rules new Z H octets gate (Err DiskFault) = ⊥
 ReplaysOne rules new Z H octets gate (Err NotFormatted) = ⊥
 

@@ -1,5 +1,5 @@
 //! Reading a gate, and the entry behind it.
-ghost use Rattle.std.specs.Prelude.{◌≡◌, ◌+◌, ◌^◌, ◌<◌, ◌≤◌, length, take, drop, IsTrue, IfOk, OnOk, OnErr};
+ghost use Rattle.std.specs.Prelude.{◌≡◌, ◌↔◌, ◌+◌, ◌^◌, ◌<◌, ◌≤◌, length, take, drop, IsTrue, IfOk, OnOk, OnErr};
 ghost use Rattle.board_core.specs.Causes.{HasCause};
 ghost use Rattle.board_core.specs.Board.{HasRoomFor, Reads};
 ghost use Rattle.pef_journal.specs.Gate.{GateIs, EndsBelow};
@@ -34,7 +34,7 @@ pub fn read_gate<B: Board>(board: &mut B, place: u64) -> Result<Gate, DiskFailed
     let mut head = [0; 3];
     let count = left.min(3) as usize;
     board.read_at(place, &mut head[..count])?;
-    if head[0] != OPEN {
+    if !is_open(head[0]) {
         return Ok(Gate::Closed);
     }
     let length = usize::from(u16::from_le_bytes([head[1], head[2]]));
@@ -42,6 +42,13 @@ pub fn read_gate<B: Board>(board: &mut B, place: u64) -> Result<Gate, DiskFailed
         return Ok(Gate::Corrupt);
     }
     Ok(Gate::Open(length))
+}
+
+// True where this octet is an open gate. Every other octet is a closed one.
+fn is_open(octet: u8) -> bool
+    ensures { IsTrue result ↔ (octet ≡ 165) }
+{
+    octet == OPEN
 }
 
 /// Puts so many octets from a place on into `out`.

@@ -13,7 +13,7 @@ use Rattle.script_run.specs.Items.{text_says, items_of_text}
 use Rattle.script_run.specs.Going.{Kind}
 use Rattle.board_core.specs.Board.{tolds_of}
 use Rattle.script_text.specs.Script.{lines_in}
-use Rattle.script_run.specs.Lines.{FailsBefore}
+use Rattle.script_run.specs.Lines.{FailsBefore, lines_read}
 use Rattle.script_run.specs.Top.{Outside, IsUntouched, RunKeeps, ReadsTo, RunStores, RunAnswers, RunCall, EndsWith, MayEnd, IsRunEnd}
 use Rattle.script_run.specs.Performing.{Performs}
 use Rattle.script_run.proofs.TopLemmas.{lacks_of}
@@ -56,7 +56,9 @@ module _ {I M : Type 0} (k : Kind I M) (Z : List ℕ) (H : List (Entry I)) (text
     formatted = a.formatted;
     is_full = a.is_full;
     far = λ count e. subst (ReadsTo (lines_in (text_says k.scripts text)) text) (sym unread) (a.far count e);
-    not_far = λ e. subst (FailsBefore (lines_in (text_says k.scripts text)) text) (sym unread) (a.not_far e);
+    not_far = λ e. subst (FailsBefore (lines_read (text_says k.scripts text)) text) (sym unread) (a.not_far e);
+    other_far = λ id count e. subst (ReadsTo 1 text) (sym unread) (a.other_far id count e);
+    other_not_far = λ o e. subst (FailsBefore 1 text) (sym unread) (a.other_not_far o e);
   }
 
 -- which failure, or what lacked, ended a run that might have been done
@@ -133,6 +135,8 @@ run_call {I} {M} k old mid new end status p board unread reads finishes =
       input = λ is. omega (arith, reads, c.reads is);
       disk = λ is. subst (λ (b : BoardView). Rose old.board.disk_faults b.disk_faults) (sym board) (c.board.disk is);
       output = λ is. omega (arith, c.writes is, e.later);
+      disk_same = λ not. ap (λ (b : BoardView). b.disk_faults) board ∙ c.board.same not;
+      input_same = λ not. reads ∙ c.reads_same not;
       calm = λ zero.
           let z = status_zero end mid.written new.written mid.writes new.writes (subst (Finishes mid.written new.written mid.writes new.writes end) zero finishes) in
           let not = λ (other : Ending) (clash : (count : ℕ) → Done count ≡ other → ⊥) (is : end ≡ other). clash z.0.0 (sym z.0.1 ∙ is) in (

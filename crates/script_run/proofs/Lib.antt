@@ -7,3 +7,6 @@ mod PlayLemmas
 mod TopLemmas
 pub mod EndLemmas
 mod PerformLemmas
+mod Shelf
+mod InMemory
+mod ShelfRoom

@@ -7,7 +7,7 @@ use Rattle.std.proofs.lemmas.Slice.Eq.{bytes_eq-Decides}
 use Rattle.script_text.specs.Forms.{is_end}
 use Rattle.script_text.specs.Lines.{lines_of, behind_line, behind_lines, ends}
 use Rattle.script_text.specs.Reading.{NamesLine}
-use Rattle.script_text.specs.Script.{given, given_by, bad_at, item_in}
+use Rattle.script_text.specs.Script.{Given, given, given_by, bad_at, item_in}
 use Rattle.script_run.specs.declared.stop.LineStop.{LineStop}
 use Rattle.script_run.specs.declared.stop.LineStop.TheVariants.{Step, Line, Input as InputFailed}
 use Rattle.script_run.specs.Lines.{Input, LineGives, GivesItem}
@@ -45,6 +45,20 @@ module _ {I : Type 0} (item_of : List ℕ → Option I) (line : List ℕ) where
 -- a line that is too long, or none, is bad
 pub no_line : {I : Type 0} (item_of : List ℕ → Option I) (lines : List (List ℕ)) (left number : ℕ) → lines ≡ [] → given item_of lines left number ≡ bad_at number
 no_line item_of lines left number none = ap (λ l. given item_of l left number) none
+
+later_by : {I : Type 0} (o : Option I) (number n : ℕ) (g : Given I) → (g.bad ≡ Some n → number + 1 ≤ n) → (given_by o number g).bad ≡ Some n → number ≤ n
+later_by (Some item) number n g rest is = omega (arith, rest is)
+later_by None number n g rest is = let e : number ≡ n = cc is in omega (arith, e)
+
+later_end : (I : Type 0) (b : Bool) (number n : ℕ) → (if b then record { items = []; bad = None } else bad_at {I = I} number).bad ≡ Some n → number ≤ n
+later_end I true number n is = absurd (cc is)
+later_end I false number n is = let e : number ≡ n = cc is in omega (arith, e)
+
+-- the first bad line of some lines isn't one before them
+pub bad_later : {I : Type 0} (item_of : List ℕ → Option I) (lines : List (List ℕ)) (left number n : ℕ) → (given item_of lines left number).bad ≡ Some n → number ≤ n
+bad_later item_of [] left number n is = let e : number ≡ n = cc is in omega (arith, e)
+bad_later {I} item_of (line ∷ lines) zero number n is = later_end I (is_end line) number n is
+bad_later item_of (line ∷ lines) (suc left) number n is = later_by (item_in item_of line) number n (given item_of lines left (number + 1)) (bad_later item_of lines left (number + 1) n) is
 
 bytes_eq_is : (one other : List ℕ) → bytes_eq one other ≡ true → one ≡ other
 bytes_eq_is one other h = let d : Decides true (one ≡ other) = subst (λ b. Decides b (one ≡ other)) h (bytes_eq-Decides one other) in d.0 refl

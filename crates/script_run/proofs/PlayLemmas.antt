@@ -11,7 +11,7 @@ use Rattle.pef_engine.specs.Scripts.{ScriptRules, IsScripted, MayCome, Awaits, I
 use Rattle.script_text.specs.Lines.{lines_of, behind_line, behind_lines}
 use Rattle.script_text.specs.Reading.{HasLeft, FailsWithin}
 use Rattle.script_text.specs.Forms.{words_of}
-use Rattle.script_text.specs.Script.{Said, Given, given, said_of, said_of_lines, said_by, head_of, head_of_words, bad_line, lines_in}
+use Rattle.script_text.specs.Script.{Said, Given, given, said_of, said_of_lines, said_by, head_of, head_of_words, bad_line}
 use Rattle.script_text.specs.declared.head.Head.{Head}
 use Rattle.script_run.specs.declared.stop.StepStop.{StepStop}
 use Rattle.script_run.specs.declared.stop.LineStop.{LineStop}
@@ -22,11 +22,11 @@ use Rattle.script_run.specs.declared.course.Course.{Course}
 use Rattle.script_run.specs.declared.course.Course.TheVariants.{Over, GoesOn, Begins}
 use Rattle.script_run.specs.Items.{IsOther, items_after, rest_of, text_says}
 use Rattle.script_run.specs.Going.{Kind, World, Goes, Moved}
-use Rattle.script_run.specs.Lines.{Input, input, Unread, step_in, Answers, Reads, HasRead, FailsBefore, Ran, IsReadyFor, GivesHead}
+use Rattle.script_run.specs.Lines.{Input, input, Unread, step_in, Answers, Reads, HasRead, up_to, up_to_behind, lines_read, FailsBefore, Ran, IsReadyFor, GivesHead}
 use Rattle.script_run.specs.Course.{IsCourse, IsAnother, GivesCourse, TakesCourse, items_on}
 use Rattle.script_run.specs.Playing.{widen, script_step, IsUnread, NamesOther, Plays}
 use Rattle.script_run.proofs.GoingLemmas.{goes_then}
-use Rattle.script_run.proofs.LineLemmas.{front_line, ends-append}
+use Rattle.script_run.proofs.LineLemmas.{front_line, ends-append, bad_later}
 use Rattle.script_run.proofs.ScriptsLemmas.{script_behind, lawful_within}
 
 -- what line 1 says
@@ -91,7 +91,7 @@ module _ {I M : Type 0} (k : Kind I M) where
 
   -- the lines of a closed script were read
   pub ran_over : {old new : World I M} {from to : Input} {lines : ℕ} {bad : List ℕ → Option ℕ} (result : Result ℕ LineStop) → Goes k old new [] None → (k.view new.engine.machine).due ≡ None → Reads from to result
-      → ((text : List ℕ) → Unread from text → Answers (bad text) result) → ((text : List ℕ) → Unread from text → HasRead lines text to result) → ((stop : StepStop) → IsErrOf result (Step stop) → ⊥) → IfOk result (λ n. n ≡ 0)
+      → ((text : List ℕ) → Unread from text → Answers (bad text) result) → ((text : List ℕ) → Unread from text → HasRead (up_to_behind (bad text) lines) text to result) → ((stop : StepStop) → IsErrOf result (Step stop) → ⊥) → IfOk result (λ n. n ≡ 0)
       → Ran k old new from to lines (λ text. []) bad result
   ran_over {old} {new} result goes due reads answers far none number = record {
     so_far = [];
@@ -160,21 +160,35 @@ fails_behind lines text source f =
       few = omega (arith, ends-append first.0 f.front, first.2, f.few);
     }
 
-far_behind : (count : ℕ) (text : List ℕ) (to : Input) (result : Result ℕ LineStop) → HasRead (count + 1) (behind_line text) to result → HasRead (count + 2) text to result
-far_behind count text to (Ok n) far = let e : suc (count + 1) ≡ count + 2 = omega arith in subst (λ m. Unread to (behind_lines m text)) e far
-far_behind count text to (Err InputFailed) far = let e : suc (count + 1) ≡ count + 2 = omega arith in subst (λ m. FailsBefore m text to.left) e (fails_behind (count + 1) text to.left far)
-far_behind count text to (Err (Line number)) far = tt
-far_behind count text to (Err (Step stop)) far = tt
+-- the same lines, counted with the first
+with_first : (bad : Option ℕ) (count : ℕ) → ((n : ℕ) → bad ≡ Some n → 2 ≤ n) → suc (up_to_behind bad (count + 1)) ≡ up_to bad (count + 2)
+with_first None count later = omega arith
+with_first (Some n) count later = let two = later n refl in omega (arith, two)
 
-failed_far : (count : ℕ) (text : List ℕ) (to : Input) (result : Result ℕ LineStop) → result ≡ Err InputFailed → HasRead (count + 2) text to result → FailsBefore (count + 2) text to.left
-failed_far count text to result is far = subst (HasRead (count + 2) text to) is far
+far_behind : (lines : ℕ) (text : List ℕ) (to : Input) (result : Result ℕ LineStop) → HasRead lines (behind_line text) to result → HasRead (suc lines) text to result
+far_behind lines text to (Ok n) far = far
+far_behind lines text to (Err InputFailed) far = fails_behind lines text to.left far
+far_behind lines text to (Err (Line number)) far = tt
+far_behind lines text to (Err (Step stop)) far = tt
+
+failed_far : (lines : ℕ) (text : List ℕ) (to : Input) (result : Result ℕ LineStop) → result ≡ Err InputFailed → HasRead lines text to result → FailsBefore lines text to.left
+failed_far lines text to result is far = subst (HasRead lines text to) is far
 
 fails_first : (lines : ℕ) (text : List ℕ) (source : Option (List ℕ)) → 0 < lines → FailsWithin text source → FailsBefore lines text source
 fails_first lines text source some f = record { left = f.left; unread = f.unread; front = f.front; whole = f.whole; few = omega (arith, f.no_end, some) }
 
-some_lines : {I : Type 0} (said : Option (Said I)) → 0 < lines_in said
-some_lines None = omega arith
-some_lines (Some said) = omega arith
+some_up_to : (bad : Option ℕ) (lines : ℕ) → ((n : ℕ) → bad ≡ Some n → 2 ≤ n) → 0 < lines → 0 < up_to bad lines
+some_up_to None lines later some = some
+some_up_to (Some n) lines later some = let two = later n refl in omega (arith, two)
+
+some_behind : {I : Type 0} (item_of : List ℕ → Option I) (head : Option Head) (lines : List (List ℕ)) → 0 < lines_read (said_by item_of head lines)
+some_behind item_of None lines = omega arith
+some_behind item_of (Some head) lines = some_up_to (given item_of lines head.count 2).bad (head.count + 2) (bad_later item_of lines head.count 2) (omega arith)
+
+-- line 1 is read
+some_lines : {I : Type 0} (word : List ℕ) (item_of : List ℕ → Option I) (lines : List (List ℕ)) → 0 < lines_read (said_of_lines word item_of lines)
+some_lines word item_of [] = omega arith
+some_lines word item_of (line ∷ lines) = some_behind item_of (head_of word line) lines
 
 -- the items that are still to come are those of the course
 items_are : {I : Type 0} (scripts : ScriptRules I) (script : Option Script) (id count : ℕ) (g : Given I) (course : Course) → IsCourse script id count course → items_after scripts script (Some (record { id = id; count = count; given = g })) ≡ items_on scripts id count g course
@@ -225,6 +239,8 @@ module _ {I M : Type 0} (k : Kind I M) where
         let none_other : IsOther script (text_says k.scripts text) → ⊥ = λ other. no_other_none I script (subst (IsOther script) h.1 other) in record {
           refused = λ other. absurd (none_other other);
           other = λ id count e. absurd (cc e);
+          other_read = λ id count e. absurd (cc e);
+          other_unread = λ other. absurd (none_other other);
           unread = λ e. absurd (cc e);
           headless = λ none. inr (ap (λ n. Err (Lines (Line n))) h.0);
           ran = λ not. (
@@ -245,14 +261,16 @@ module _ {I M : Type 0} (k : Kind I M) where
     held = reads.held;
     played = λ Z H lawful shows text unread. record {
       refused = λ other. (refl, inl refl);
-      unread = λ e. fails_first (lines_in (text_says k.scripts text)) text to.left (some_lines (text_says k.scripts text)) (head text unread);
+      unread = λ e. fails_first (lines_read (text_says k.scripts text)) text to.left (some_lines k.scripts.word k.scripts.item_of (lines_of text)) (head text unread);
       other = λ id count e. absurd (cc e);
+      other_read = λ id count e. absurd (cc e);
+      other_unread = λ other e. fails_first 1 text to.left (omega arith) (head text unread);
       headless = λ none. inl refl;
       ran = λ not. (
         Err InputFailed,
         refl,
         record { more = items_after k.scripts (script_of k.scripts H) (text_says k.scripts text); split = refl; read = λ read. absurd {0} read; answers = tt; number = tt },
-        fails_first (lines_in (text_says k.scripts text)) text to.left (some_lines (text_says k.scripts text)) (head text unread),
+        fails_first (lines_read (text_says k.scripts text)) text to.left (some_lines k.scripts.word k.scripts.item_of (lines_of text)) (head text unread),
         λ some read. absurd read,
       );
     };
@@ -278,6 +296,8 @@ module _ {I M : Type 0} (k : Kind I M) where
             refused = λ o. (refl, inr (names_other s id count two.1));
             unread = λ e. absurd (cc e);
             other = λ i c e. other;
+            other_read = λ i c e. h.0;
+            other_unread = λ o e. absurd (cc e);
             headless = λ none. absurd (let clash : Some _ ≡ None = sym h.1 ∙ none in cc clash);
             ran = λ not. absurd (not other);
           };
@@ -300,11 +320,15 @@ module _ {I M : Type 0} (k : Kind I M) where
           let s = script_of k.scripts H in
           let rest = behind_line text in
           let g = given k.scripts.item_of (lines_of rest) head.count 2 in
+          let behind = up_to_behind g.bad (head.count + 1) in
+          let lines_all = with_first g.bad head.count (bad_later k.scripts.item_of (lines_of rest) head.count 2) ∙ sym (ap lines_read h.1) in
           let takes : IsCourse s head.id head.count course = subst (λ x. IsCourse x head.id head.count course) (opened Z H lawful shows) is in
           let not_other : IsOther s (text_says k.scripts text) → ⊥ = λ o. no_other s head.id head.count g course takes (subst (IsOther s) h.1 o) in record {
             refused = λ o. absurd (not_other o);
             other = λ id count e. absurd (not_unfinished lines id count e);
-            unread = λ e. subst (λ n. FailsBefore n text to.left) (sym (ap lines_in h.1)) (failed_far head.count text to lines (narrow lines e) (far_behind head.count text to lines (r.far rest h.0)));
+            other_read = λ id count e. absurd (not_unfinished lines id count e);
+            other_unread = λ o. absurd (not_other o);
+            unread = λ e. subst (λ n. FailsBefore n text to.left) lines_all (failed_far (suc behind) text to lines (narrow lines e) (far_behind behind text to lines (r.far rest h.0)));
             headless = λ none. absurd (let clash : Some _ ≡ None = sym h.1 ∙ none in cc clash);
             ran = λ not. (
               lines,
@@ -316,7 +340,7 @@ module _ {I M : Type 0} (k : Kind I M) where
                 answers = subst (λ b. Answers b lines) (sym (ap bad_line h.1)) i.answers;
                 number = subst (λ l. IfOk lines (λ n. n ≡ length l)) (sym (ap (items_after k.scripts s) h.1 ∙ items_are k.scripts s head.id head.count g course takes)) i.number;
               },
-              subst (λ n. HasRead n text to lines) (sym (ap lines_in h.1)) (far_behind head.count text to lines (r.far rest h.0)),
+              subst (λ n. HasRead n text to lines) lines_all (far_behind behind text to lines (r.far rest h.0)),
               λ some read. r.idle read,
             );
           };

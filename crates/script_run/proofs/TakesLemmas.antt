@@ -10,8 +10,8 @@ use Rattle.script_run.specs.declared.stop.LineStop.{LineStop}
 use Rattle.script_run.specs.declared.stop.LineStop.TheVariants.{Step, Line, Input as InputFailed}
 use Rattle.script_run.specs.Items.{rest_of, closing_of}
 use Rattle.script_run.specs.Going.{Kind, World, Goes}
-use Rattle.script_run.specs.Lines.{Input, Unread, Reads, GivesItem, FailsBefore, Answers, HasRead, Ran, Passes, Stands, Takes}
-use Rattle.script_run.proofs.LineLemmas.{front_line, ends-append}
+use Rattle.script_run.specs.Lines.{Input, Unread, Reads, GivesItem, FailsBefore, Answers, HasRead, up_to_behind, Ran, Passes, Stands, Takes}
+use Rattle.script_run.proofs.LineLemmas.{front_line, ends-append, bad_later}
 use Rattle.script_run.proofs.GoingLemmas.{goes_then}
 
 pub reads_ok : {A B : Type 0} {from at to : Input} {x : A} (result : Result B LineStop) → at.faults ≡ from.faults → Reads {A = A} at to (Ok x) → (result ≡ Err InputFailed → ⊥) → Reads from to result
@@ -52,6 +52,7 @@ module _ {I : Type 0} (scripts : ScriptRules I) where
       unread = unread;
       lines = 0;
       counted = omega arith;
+      numbered = omega arith;
       behind = λ more. let e : more ≡ 0 + more = omega arith in ap (λ n. behind_lines n text) e;
       front = [];
       whole = refl;
@@ -67,6 +68,7 @@ module _ {I : Type 0} (scripts : ScriptRules I) where
           unread = gives.0;
           lines = p.lines + 1;
           counted = omega (arith, p.counted, more);
+          numbered = omega (arith, p.numbered);
           behind = λ n. let e : p.lines + suc n ≡ (p.lines + 1) + n = omega arith in p.behind (suc n) ∙ ap (λ m. behind_lines m text) e;
           front = p.front ++ f.0;
           whole = p.whole ∙ ap (λ l. p.front ++ l) f.1 ∙ sym (append_assoc p.front f.0 (behind_line p.rest));
@@ -74,14 +76,22 @@ module _ {I : Type 0} (scripts : ScriptRules I) where
           bad = ap (λ (g : Given I). g.bad) (sym gives.1) ∙ p.bad;
         }
 
+    abbrev bad_in : Option ℕ
+    bad_in = (given scripts.item_of (lines_of text) count 2).bad
+
+    -- lines are still to be read
+    more_lines : {at : Input} {left number : ℕ} (p : Passes scripts text count at left number) (bad : Option ℕ) → (given scripts.item_of (lines_of p.rest) left number).bad ≡ bad → p.lines < up_to_behind bad (count + 1)
+    more_lines p None is = omega (arith, p.counted)
+    more_lines {left = left} {number = number} p (Some n) is = let later = bad_later scripts.item_of (lines_of p.rest) left number n is in omega (arith, p.numbered, later)
+
     -- a read failed
-    pub passes_fail : {at : Input} {left number : ℕ} (p : Passes scripts text count at left number) (source : Option (List ℕ)) → FailsWithin p.rest source → FailsBefore (count + 1) text source
+    pub passes_fail : {at : Input} {left number : ℕ} (p : Passes scripts text count at left number) (source : Option (List ℕ)) → FailsWithin p.rest source → FailsBefore (up_to_behind bad_in (count + 1)) text source
     passes_fail p source f = record {
       left = f.left;
       unread = f.unread;
       front = p.front ++ f.front;
       whole = p.whole ∙ ap (λ l. p.front ++ l) f.whole ∙ sym (append_assoc p.front f.front f.left);
-      few = omega (arith, ends-append p.front f.front, p.few, f.no_end, p.counted);
+      few = let more = more_lines p bad_in p.bad in omega (arith, ends-append p.front f.front, p.few, f.no_end, more);
     }
 
     -- a bad line, or a failed read, stops it
@@ -90,14 +100,14 @@ module _ {I : Type 0} (scripts : ScriptRules I) where
     passes_stop p to InputFailed gives = tt
     passes_stop p to (Step stop) gives = tt
 
-    pub passes_far : {at : Input} {left number : ℕ} (p : Passes scripts text count at left number) (to : Input) (stop : LineStop) → GivesItem scripts.item_of p.rest left number to (Err stop) → HasRead {A = Unit {0}} (count + 1) text to (Err stop)
+    pub passes_far : {at : Input} {left number : ℕ} (p : Passes scripts text count at left number) (to : Input) (stop : LineStop) → GivesItem scripts.item_of p.rest left number to (Err stop) → HasRead {A = Unit {0}} (up_to_behind bad_in (count + 1)) text to (Err stop)
     passes_far p to (Line bad) gives = tt
     passes_far p to InputFailed gives = passes_fail p to.left gives
     passes_far p to (Step stop) gives = tt
 
     -- the line `end` was read behind the last item
-    pub passes_end : {at : Input} {left number : ℕ} (p : Passes scripts text count at left number) (to : Input) → Unread to (behind_line p.rest) → left ≡ 0 → Unread to (behind_lines (count + 1) text)
-    passes_end p to unread none = let e : p.lines + 1 ≡ count + 1 = omega (arith, p.counted, none) in subst (Unread to) (p.behind 1 ∙ ap (λ n. behind_lines n text) e) unread
+    pub passes_end : {at : Input} {left number : ℕ} (p : Passes scripts text count at left number) (to : Input) → Unread to (behind_line p.rest) → left ≡ 0 → bad_in ≡ None → Unread to (behind_lines (up_to_behind bad_in (count + 1)) text)
+    passes_end p to unread none good = subst (λ b. Unread to (behind_lines (up_to_behind b (count + 1)) text)) (sym good) (let e : p.lines + 1 ≡ count + 1 = omega (arith, p.counted, none) in subst (Unread to) (p.behind 1 ∙ ap (λ n. behind_lines n text) e) unread)
 
   module _ (text : List ℕ) (count taken : ℕ) where
     stands_next : {at to : Input} {skip left number : ℕ} {so_far : List I} (skip' : ℕ) (so_far' : List I) (item : I) (s : Stands scripts text count taken at skip left number so_far)
@@ -213,7 +223,8 @@ module _ {I M : Type 0} (k : Kind I M) (count taken : ℕ) where
             answers = sym s.passes.bad ∙ ap (λ (x : Given I). x.bad) (gives_as none s.passes.rest s.passes.unread).1;
             number = omega (arith, t.counted, length-append t.so_far (closing ∷ []), ap length (ends_all closing is none text unread));
           };
-      far = λ text unread. let s = t.stands text unread in passes_end k.scripts text count s.passes to (gives_as none s.passes.rest s.passes.unread).0 ended;
+      far = λ text unread. let s = t.stands text unread in passes_end k.scripts text count s.passes to (gives_as none s.passes.rest s.passes.unread).0 ended
+          (sym s.passes.bad ∙ ap (λ (x : Given I). x.bad) (gives_as none s.passes.rest s.passes.unread).1);
     }
 
     -- an item is passed over

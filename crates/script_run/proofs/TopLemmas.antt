@@ -17,6 +17,7 @@ use Rattle.pef_engine.proofs.Compose.{run_goes_on, run_more}
 use Rattle.pef_engine.proofs.Prefixes.{run_item, run_outcome}
 use Rattle.pef_engine.proofs.Stored.{images_stand}
 use Rattle.pef_engine.proofs.Moments.{leaves_start}
+use Rattle.script_text.specs.Lines.{behind_lines}
 use Rattle.script_text.specs.Script.{bad_line, lines_in, Said}
 use Rattle.report_line.specs.declared.ending.Ending.{Ending}
 use Rattle.report_line.specs.declared.ending.Ending.TheVariants.{Done, Unformatted, Line, Unfinished, Input, Disk, Output, Full, Memory}
@@ -29,7 +30,7 @@ use Rattle.script_run.specs.declared.stop.ScriptStop.TheVariants as script
 use Rattle.script_run.specs.Items.{IsOther, is_same, items_after, items_of_text, text_says}
 use Rattle.script_run.specs.Room.{IsTooMuch, HadRoom, LacksRoom}
 use Rattle.script_run.specs.Going.{Kind, World, ComesNext, LacksNext, Went}
-use Rattle.script_run.specs.Lines.{Input as Source, HasRead, IsRead, Answers as LineAnswers}
+use Rattle.script_run.specs.Lines.{Input as Source, Unread, up_to, lines_read, HasRead, IsRead, Answers as LineAnswers}
 use Rattle.script_run.specs.Playing.{widen, script_step, IsUnread, NamesOther, Played}
 use Rattle.script_run.specs.Performing.{step_ending, script_ending}
 use Rattle.script_run.specs.Top.{Outside, outside, IsUntouched, RunKeeps, ReturnLeft, RunStores, RunAnswers, MayEndAtOnce, IsOfText, IsReadOut, IsFailure}
@@ -153,6 +154,8 @@ module _ {I M : Type 0} (k : Kind I M) (Z : List ℕ) (H : List (Entry I)) where
     is_full = λ some not more lacks. is_failure end once;
     far = λ count e. absurd (subst (MayEndAtOnce k Z H) e once);
     not_far = λ e. absurd (not_input e);
+    other_far = λ id count e. absurd (subst (MayEndAtOnce k Z H) e once);
+    other_not_far = λ o e. absurd (not_input e);
   }
     where
       not_of_text : (end : Ending) → MayEndAtOnce k Z H end → IsOfText end → ⊥
@@ -398,8 +401,12 @@ module _ {I M : Type 0} (k : Kind I M) (Z : List ℕ) (H : List (Entry I)) (text
         far = λ count e.
             let read = subst IsReadOut (sym e) tt in
             let g = p.ran (not_other read) in
-            let here = subst (HasRead (lines_in said) text to) (lines_are g.0 result (Done count) g.1 e) g.3 in record { left = here.rest; unread = here.unread; beyond = to.held; behind = here.whole; few = held };
+            let lines = lines_are g.0 result (Done count) g.1 e in
+            let good : bad_line said ≡ None = subst (LineAnswers (bad_line said)) lines g.2.answers in
+            let here = subst (λ b. Unread to (behind_lines (up_to b (lines_in said)) text)) good (subst (HasRead (lines_read said) text to) lines g.3) in record { left = here.rest; unread = here.unread; beyond = to.held; behind = here.whole; few = held };
         not_far = λ e. p.unread (answer result Input e);
+        other_far = λ id count e. let here = p.other_read id count (answer result (Unfinished id count) e) in record { left = here.rest; unread = here.unread; beyond = to.held; behind = here.whole; few = held };
+        other_not_far = λ o e. p.other_unread o (answer result Input e);
       }
     where
       idle : IsReadOut (script_ending result) → IsSome said → k.rules.pending Z (H ++ w.entries) ≡ None

@@ -7,3 +7,5 @@ pub mod Course
 pub mod Playing
 pub mod Performing
 pub mod Top
+pub mod InMemory
+pub mod Shelf

@@ -7,7 +7,7 @@ use Rattle.pef_engine.specs.MachineView.{MachineView}
 use Rattle.pef_engine.specs.Scripts.{ScriptRules, script_of, Awaits}
 use Rattle.script_text.specs.Lines.{lines_of, behind_line, behind_lines, ends}
 use Rattle.script_text.specs.Reading.{HasLeft, FailsWithin}
-use Rattle.script_text.specs.Script.{given, give_item, bad_at, said_of}
+use Rattle.script_text.specs.Script.{Said, given, give_item, bad_at, bad_line, lines_in, said_of}
 use Rattle.script_text.specs.declared.head.Head.{Head}
 use Rattle.script_run.specs.declared.stop.StepStop.{StepStop}
 use Rattle.script_run.specs.declared.stop.LineStop.{LineStop}
@@ -53,6 +53,20 @@ pub record FailsBefore (lines : ℕ) (text : List ℕ) (source : Option (List �
   pub whole : text ≡ front ++ left
   pub few : ends front < lines
 
+-- how many of these lines are read: up to the first bad one, or all
+abbrev pub up_to : Option ℕ → ℕ → ℕ
+up_to None lines = lines
+up_to (Some number) lines = number
+
+-- how many lines of a script are read
+abbrev pub lines_read : {I : Type 0} → Option (Said I) → ℕ
+lines_read said = up_to (bad_line said) (lines_in said)
+
+-- the same behind line 1, where the lines are counted from line 1 on
+abbrev pub up_to_behind : Option ℕ → ℕ → ℕ
+up_to_behind None lines = lines
+up_to_behind (Some number) lines = number - 1
+
 -- How far the input was read, where so many lines were to come: at Ok behind the last of them; where a read failed not as far.
 abbrev pub HasRead : {A : Type 0} → ℕ → List ℕ → Input → Result A LineStop → Type 0
 HasRead lines text at (Ok x) = Unread at (behind_lines lines text)
@@ -81,7 +95,7 @@ pub record Ran {I M : Type 0} (k : Kind I M) (old new : World I M) (from to : In
   pub idle : IsRead result → (k.view new.engine.machine).due ≡ None
   pub reads : Reads from to result
   pub given : (text : List ℕ) → Unread from text → IsGiven so_far (all text) (bad text) result
-  pub far : (text : List ℕ) → Unread from text → HasRead lines text to result
+  pub far : (text : List ℕ) → Unread from text → HasRead (up_to_behind (bad text) lines) text to result
 
 -- what a line gives where so many items are still to come and this is its number, whatever lines come behind it
 abbrev pub LineGives : {I : Type 0} → (List ℕ → Option I) → List ℕ → ℕ → ℕ → Result (Option I) LineStop → Type 0
@@ -123,6 +137,7 @@ pub record Passes {I : Type 0} (scripts : ScriptRules I) (text : List ℕ) (coun
   pub unread : Unread at rest
   pub lines : ℕ
   pub counted : lines + left ≡ count
+  pub numbered : number ≡ lines + 2
   pub behind : (more : ℕ) → behind_lines more rest ≡ behind_lines (lines + more) text
   pub front : List ℕ
   pub whole : text ≡ front ++ rest

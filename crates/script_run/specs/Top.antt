@@ -17,7 +17,7 @@ use Rattle.report_line.specs.Finishing.{status_unsaid}
 use Rattle.script_run.specs.Items.{IsOther, text_says, items_of_text}
 use Rattle.script_run.specs.Room.{HadRoom, LacksRoom}
 use Rattle.script_run.specs.Going.{Kind, report, LacksNext, IsCut}
-use Rattle.script_run.specs.Lines.{FailsBefore}
+use Rattle.script_run.specs.Lines.{FailsBefore, lines_read}
 
 -- the outside of a call at one moment: the board, what is left of the source, what the sink was given, and their counts of failures
 pub record Outside : Type 1 where
@@ -137,9 +137,12 @@ pub record RunAnswers {I M : Type 0} (k : Kind I M) (Z : List ℕ) (H : List (En
   -- where an entry of the run without a crash has no room, it isn't done
   pub is_full : IsSome (text_says k.scripts text) → (IsOther (script_of k.scripts H) (text_says k.scripts text) → ⊥) → (more : List Told)
       → LacksRoom k.rules Z H (items_of_text k.scripts text H) (entry_tolds stores.entries ++ more) → IsFailure end
-  -- how far the source was read
+  -- how far the source was read: to the end of the last line, and where a read failed neither behind a bad line nor as far as that
   pub far : (count : ℕ) → end ≡ Done count → ReadsTo (lines_in (text_says k.scripts text)) text new.unread
-  pub not_far : end ≡ Input → FailsBefore (lines_in (text_says k.scripts text)) text new.unread
+  pub not_far : end ≡ Input → FailsBefore (lines_read (text_says k.scripts text)) text new.unread
+  -- and where another script is unfinished, line 1 alone
+  pub other_far : (id count : ℕ) → end ≡ Unfinished id count → ReadsTo 1 text new.unread
+  pub other_not_far : IsOther (script_of k.scripts H) (text_says k.scripts text) → end ≡ Input → FailsBefore 1 text new.unread
 
 -- the status, and the part of the last line that was written: all of it unless the sink failed
 abbrev pub EndsWith : Ending → List ℕ → ℕ → ℕ → ℕ → Type 0
@@ -186,7 +189,10 @@ pub record RunCall {I M : Type 0} (k : Kind I M) (old new : Outside) (status : �
   pub input : end ≡ Input → Rose old.reads new.reads
   pub disk : end ≡ Disk → Rose old.board.disk_faults new.board.disk_faults
   pub output : end ≡ Output → Rose old.writes new.writes
-  -- and at status 0 no count of failures of the disk, the source or the sink rose
+  -- and no other end passes over a failure of the disk or the source
+  pub disk_same : end ≢ Disk → new.board.disk_faults ≡ old.board.disk_faults
+  pub input_same : end ≢ Input → new.reads ≡ old.reads
+  -- at status 0 no count of failures of the disk, the source or the sink rose
   pub calm : status ≡ 0 → (new.board.disk_faults ≡ old.board.disk_faults) × (new.reads ≡ old.reads) × (new.writes ≡ old.writes)
   -- out of memory before the first item, but for a machine that takes memory for its items
   pub memory : end ≡ Memory → IsTrue k.rules.takes_memory ⊎ (IsTrue new.board.tells → IsUntouched old.board new.board)

@@ -2,11 +2,17 @@
 #![tactic(auto)]
 
 mod course;
+mod laws;
 mod playing;
+mod reading;
 mod report;
 mod running;
 mod settling;
 mod stop;
 mod taking;
 
+pub use laws::{run_after_crash, run_in_memory};
 pub use running::run;
+
+#[cfg(test)]
+mod tests;

@@ -8,11 +8,12 @@ ghost use Rattle.pef_engine.specs.Engine.{IsLive, HasPlace, ShowsSome};
 ghost use Rattle.script_text.specs.Lines.{lines_of};
 ghost use Rattle.script_text.specs.Script.{given};
 ghost use Rattle.script_run.specs.Going.{kind, world};
-ghost use Rattle.script_run.specs.Lines.{input, Unread, Ran, Reads, Answers, HasRead, GivesHead};
+ghost use Rattle.script_run.specs.Lines.{input, Unread, Ran, Reads, Answers, HasRead, up_to_behind, GivesHead};
 ghost use Rattle.script_run.specs.Course.{TakesCourse, items_on};
 ghost use Rattle.script_run.specs.Playing.{Plays};
 
 use crate::course::{Course, course_of};
+use crate::reading::read_line;
 use crate::settling::{settle_and_say, take_one};
 use crate::stop::{LineStop, ScriptStop};
 use crate::taking::{pass_over, take_lines};
@@ -55,7 +56,7 @@ fn first_line<M: Scripted, S: Source>(reader: &mut Reader, source: &mut S) -> Re
     ensures no_step { (stop : _) → IsErrOf result (LineStop.Step stop) → ⊥ }
 {
     let mut line = LineBuffer::new();
-    match reader.line(source, &mut line) {
+    match read_line(reader, source, &mut line) {
         Ok(Found::Line) => match read_head(M::word(), line.as_slice()) {
             Some(head) => Ok(head),
             None => Err(LineStop::Line(1)),
@@ -129,7 +130,7 @@ fn end_over<M: Scripted, S: Source>(
 ) -> Result<u32, LineStop>
     requires count { head.count ≤ 1000000 }
     ensures answers { (text : List ℕ) → Unread (input reader.old (S.left source.old) (S.faults source.old)) text → Answers (given M.scripts.item_of (lines_of text) head.count 2).bad result }
-    ensures far { (text : List ℕ) → Unread (input reader.old (S.left source.old) (S.faults source.old)) text → HasRead (head.count + 1) text (input reader.new (S.left source.new) (S.faults source.new)) result }
+    ensures far { (text : List ℕ) → Unread (input reader.old (S.left source.old) (S.faults source.old)) text → HasRead (up_to_behind (given M.scripts.item_of (lines_of text) head.count 2).bad (head.count + 1)) text (input reader.new (S.left source.new) (S.faults source.new)) result }
     ensures reads { Reads (input reader.old (S.left source.old) (S.faults source.old)) (input reader.new (S.left source.new) (S.faults source.new)) result }
     ensures no_step { (stop : _) → IsErrOf result (LineStop.Step stop) → ⊥ }
     ensures none { IfOk result (λ n. n ≡ 0) }

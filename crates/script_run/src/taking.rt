@@ -6,8 +6,9 @@ ghost use Rattle.script_text.specs.Lines.{lines_of};
 ghost use Rattle.script_text.specs.Script.{given};
 ghost use Rattle.script_run.specs.Items.{rest_of};
 ghost use Rattle.script_run.specs.Going.{kind, world};
-ghost use Rattle.script_run.specs.Lines.{Input, input, Unread, Ran, Reads, Answers, HasRead, GivesItem, LineGives, IsReadyFor};
+ghost use Rattle.script_run.specs.Lines.{Input, input, Unread, Ran, Reads, Answers, HasRead, up_to_behind, GivesItem, LineGives, IsReadyFor};
 
+use crate::reading::read_line;
 use crate::settling::take_one;
 use crate::stop::LineStop;
 use board_core::{Board, Sink, Source};
@@ -64,7 +65,7 @@ pub(crate) fn pass_over<M: Scripted, S: Source>(
 ) -> Result<(), LineStop>
     requires count { count ≤ 1000000 }
     ensures answers { (text : List ℕ) → Unread (input reader.old (S.left source.old) (S.faults source.old)) text → Answers (given M.scripts.item_of (lines_of text) count 2).bad result }
-    ensures far { (text : List ℕ) → Unread (input reader.old (S.left source.old) (S.faults source.old)) text → HasRead (count + 1) text (input reader.new (S.left source.new) (S.faults source.new)) result }
+    ensures far { (text : List ℕ) → Unread (input reader.old (S.left source.old) (S.faults source.old)) text → HasRead (up_to_behind (given M.scripts.item_of (lines_of text) count 2).bad (count + 1)) text (input reader.new (S.left source.new) (S.faults source.new)) result }
     ensures reads { Reads (input reader.old (S.left source.old) (S.faults source.old)) (input reader.new (S.left source.new) (S.faults source.new)) result }
     ensures no_step { (stop : _) → IsErrOf result (LineStop.Step stop) → ⊥ }
 {
@@ -95,7 +96,7 @@ fn next_item<M: Scripted, S: Source>(
     ensures reads { Reads (input reader.old (S.left source.old) (S.faults source.old)) (input reader.new (S.left source.new) (S.faults source.new)) result }
 {
     let mut line = LineBuffer::new();
-    match reader.line(source, &mut line) {
+    match read_line(reader, source, &mut line) {
         Ok(Found::Line) => item_at::<M>(line.as_slice(), left, number),
         Ok(Found::TooLong) => Err(LineStop::Line(number)),
         Ok(Found::End) => Err(LineStop::Line(number)),

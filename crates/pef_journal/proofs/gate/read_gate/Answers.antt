@@ -13,5 +13,5 @@ returns-clause-found g c = λ tells.
     let count : c.min-count.result ≡ 3 = omega (arith, c.min-count.ensures, c.if-left-length.false) in
     let within : c.args.place + 3 + n < length file = omega (arith, c.if-left-length.false, size, c.if-place-file_length.false) in (
       (c.if-length-lt1.false, c.if-length-gt-LONGEST.false, within),
-      open_gate file c.args.place n into (drop c.min-count.result (0 ∷ 0 ∷ 0 ∷ [])) read (search (rules, count)) (omega (arith, within)) (search (rules, c.if-head.false)) (c.from-length.ensures ∙ c.from_le_bytes.ensures) c.if-head.element_fits.fits,
+      open_gate file c.args.place n into (drop c.min-count.result (0 ∷ 0 ∷ 0 ∷ [])) read (search (rules, count)) (omega (arith, within)) (c.is_open.ensures.0 c.if-not-is_open.false) (c.from-length.ensures ∙ c.from_le_bytes.ensures) c.if-not-is_open.element_fits.fits,
     )

@@ -38,7 +38,8 @@ returns-in_default g c =
           sym p.bad ∙ ap (λ (x : Given g.row.M-Item.Denot). x.bad) (subst (λ x. GivesItem g.M.Scripted.scripts.item_of p.rest c.lines.left c.lines.number to (Ok x)) c.in_default.is (o.given p.rest p.unread)).1;
       far = λ text unread.
           let p = i.stands text unread in
-          passes_end g.M.Scripted.scripts text c.args.count p to (subst (λ x. GivesItem g.M.Scripted.scripts.item_of p.rest c.lines.left c.lines.number to (Ok x)) c.in_default.is (o.given p.rest p.unread)).0 none;
+          passes_end g.M.Scripted.scripts text c.args.count p to (subst (λ x. GivesItem g.M.Scripted.scripts.item_of p.rest c.lines.left c.lines.number to (Ok x)) c.in_default.is (o.given p.rest p.unread)).0 none
+          (sym p.bad ∙ ap (λ (x : Given g.row.M-Item.Denot). x.bad) (subst (λ x. GivesItem g.M.Scripted.scripts.item_of p.rest c.lines.left c.lines.number to (Ok x)) c.in_default.is (o.given p.rest p.unread)).1);
       reads = reads_ok (Ok (tt {0})) i.same o.reads (λ e. let clash : Ok (tt {0}) ≡ Err _ = e in cc clash);
       no_step = λ stop e. cc e;
     }

@@ -1,0 +1,4 @@
+//! Runs of a small machine that has a limit of its own and takes memory for its items.
+mod crash;
+mod limit;
+mod shelf;
