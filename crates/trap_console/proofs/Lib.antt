@@ -1,0 +1,5 @@
+pub mod Receiving
+pub mod Keys
+pub mod Places
+pub mod Lookups
+pub mod Behind

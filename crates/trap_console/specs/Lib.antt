@@ -1,0 +1,10 @@
+pub mod Received
+pub mod Rows
+pub mod Heard
+pub mod Report
+pub mod Histories
+pub mod Index
+pub mod Ledger
+pub mod View
+pub mod Laws
+pub mod Entries
