@@ -3,3 +3,4 @@ pub mod Keys
 pub mod Places
 pub mod Lookups
 pub mod Behind
+pub mod Decoding

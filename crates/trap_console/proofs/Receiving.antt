@@ -1,11 +1,10 @@
 -- What the reader of traps answers is what a datagram says.
-use Rattle.std.proofs.Common.{◌≡◌, ℕ, List, [], ◌∷◌, Result, Ok, Err, refl, sym, ap, ◌∙◌, subst, inl, inr}
+use Rattle.std.proofs.Common.{◌≡◌, ℕ, List, [], ◌∷◌, Result, Ok, Err, sym, ap, ◌∙◌, subst, inl, inr}
 use Rattle.board_core.specs.declared.step.Address.{Address}
 use Rattle.snmp_trap.specs.declared.refusal.Refusal.{Refusal}
-use Rattle.snmp_trap.specs.declared.trap.TrapView.{TrapView}
 use Rattle.snmp_trap.specs.Grammar.{Seen, Binding, IsBody, IsBodyOf, IsTrap}
 use Rattle.snmp_trap.specs.Refusals.{refusal, RefusedTrap}
-use Rattle.snmp_trap.specs.Reading.{read, seen}
+use Rattle.snmp_trap.specs.Reading.{read}
 use Rattle.snmp_trap.proofs.Results.{either}
 use Rattle.snmp_trap.proofs.Message.{read_exact}
 use Rattle.trap_console.specs.declared.row.Row.{Row}

@@ -1,5 +1,5 @@
 -- What a history of the console says: its rows, and what its last item was.
-use Rattle.std.specs.Prelude.{ℕ, List, [], ◌∷◌, fold}
+use Rattle.std.specs.Prelude.{List, [], ◌∷◌, fold}
 use Rattle.pef_engine.specs.declared.entry.Entry.{Entry}
 use Rattle.pef_engine.specs.declared.entry.Entry.TheVariants.{Item as Taken, Outcome}
 use Rattle.trap_console.specs.declared.heard.Heard.{Heard}

@@ -1,5 +1,5 @@
 -- What the histories of a console mean. The kind of its file, its settings and the spelling of its entries are this project's own.
-use Rattle.std.specs.Prelude.{◌≡◌, ⊤, ℕ, ◌≤◌, ◌<◌, ◌^◌, true, List, [], ◌∷◌, ◌++◌, length, Option, None, fold}
+use Rattle.std.specs.Prelude.{◌≡◌, ⊤, ℕ, ◌≤◌, ◌<◌, ◌^◌, true, List, ◌∷◌, ◌++◌, length, Option, None, fold}
 use Rattle.std.specs.Int.{to_le_bytes, from_le_bytes, w16}
 use Rattle.board_core.specs.declared.step.Step.{Step}
 use Rattle.pef_engine.specs.declared.entry.Entry.{Entry}

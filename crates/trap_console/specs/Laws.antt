@@ -14,7 +14,6 @@ use Rattle.script_text.specs.Forms.{words_of, octets_up_to, address_of}
 use Rattle.trap_console.specs.declared.console.Console.{Console}
 use Rattle.trap_console.specs.declared.item.Item.{Item}
 use Rattle.trap_console.specs.declared.item.Item.TheVariants.{Datagram, Open, Close}
-use Rattle.trap_console.specs.Heard.{rows_of}
 use Rattle.trap_console.specs.Histories.{IsEntry, IsOver, encode, console_rules}
 use Rattle.trap_console.specs.Report.{datagram_by, item_of_words, step_in, console_scripts}
 use Rattle.trap_console.specs.View.{ShowsConsole, AllowedBy, view_of}

@@ -1,6 +1,6 @@
 -- The rows of a console. That a GUID, a sequence number and a timestamp tell traps apart follows PET 1.0, by which a sender gives each
 -- alert its own; that a row is a trap as it first arrived, and that there are at most 65,536 rows, is this project's rule.
-use Rattle.std.specs.Prelude.{◌≡◌, ℕ, ◌+◌, ◌≤◌, Bool, ◌&&◌, ◌==◌, bytes_eq, List, [], ◌∷◌, ◌++◌, length, Option, Some, None, is_some, Result, Ok, Err, if◌then◌else◌}
+use Rattle.std.specs.Prelude.{◌≡◌, ℕ, ◌+◌, Bool, ◌&&◌, ◌==◌, bytes_eq, List, [], ◌∷◌, ◌++◌, length, Option, Some, None, is_some, Result, Ok, Err, if◌then◌else◌}
 use Rattle.std.specs.List.{position}
 use Rattle.snmp_trap.specs.declared.refusal.Refusal.{Refusal}
 use Rattle.pet_body.specs.declared.body.Body.{Body}

@@ -1,4 +1,4 @@
-use Rattle.std.proofs.Common.{◌≡◌, Ok, sym, ◌∙◌, ap}
+use Rattle.std.proofs.Common.{Ok, sym, ◌∙◌, ap}
 use Rattle.snmp_trap.specs.Reading.{seen}
 use Rattle.pet_body.specs.declared.body.Body.{Body}
 use Rattle.trap_console.proofs.Receiving.{has_body, receives, refuses}
