@@ -19,3 +19,6 @@ pub use item::Item;
 pub use key::{Key, key_of};
 pub use laws::received_law;
 pub use row::Row;
+
+#[cfg(test)]
+mod tests;
