@@ -4,3 +4,7 @@ pub mod Places
 pub mod Lookups
 pub mod Behind
 pub mod Decoding
+pub mod Acks
+pub mod Firsts
+pub mod Examples
+pub mod Appending

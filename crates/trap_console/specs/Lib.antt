@@ -8,3 +8,6 @@ pub mod Ledger
 pub mod View
 pub mod Laws
 pub mod Entries
+pub mod Firsts
+pub mod Acks
+pub mod Listing

@@ -22,10 +22,10 @@ pub struct Console {
 }
 
 impl Console {
-    ghost use Rattle.std.specs.Prelude.{◌≡◌, ◌↔◌, ℕ, [], List, IsTrue, OnOk, IsErrOf};
+    ghost use Rattle.std.specs.Prelude.{◌≡◌, ◌↔◌, ◌≤◌, ℕ, [], List, length, IsTrue, OnOk, IsErrOf};
     ghost use Rattle.pef_engine.specs.Scripts.{MayCome, script_with, script_of};
     ghost use Rattle.trap_console.specs.Received.{received, due_by};
-    ghost use Rattle.trap_console.specs.Rows.{rows_by, heard_by};
+    ghost use Rattle.trap_console.specs.Rows.{rows_by, heard_by, row_limit};
     ghost use Rattle.trap_console.specs.Heard.{rows_of, heard_after, rows_with, heard_with};
     ghost use Rattle.trap_console.specs.Histories.{ack_port, due_behind, IsOver};
     ghost use Rattle.trap_console.specs.Report.{step_in, console_scripts};
@@ -46,7 +46,8 @@ impl Console {
 
     /// The rows, in the order in which they arrived.
     pub fn rows(&self) -> &[Row]
-        ensures { (Z : List ℕ) (H : List (Entry Item)) → ShowsConsole self.now Z H → result.now ≡ rows_of H }
+        ensures rows { (Z : List ℕ) (H : List (Entry Item)) → ShowsConsole self.now Z H → result.now ≡ rows_of H }
+        ensures few { length result.now ≤ row_limit }
     {
         self.ledger.rows()
     }

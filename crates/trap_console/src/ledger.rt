@@ -41,7 +41,8 @@ impl Ledger {
 
     /// The rows in the order in which they arrived.
     pub fn rows(&self) -> &[Row]
-        ensures { result.now ≡ self.now.rows.items }
+        ensures rows { result.now ≡ self.now.rows.items }
+        ensures few { length result.now ≤ row_limit }
     {
         &self.rows
     }

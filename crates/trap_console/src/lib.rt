@@ -8,6 +8,7 @@ mod item;
 mod key;
 mod laws;
 mod ledger;
+mod listing;
 mod machine;
 mod received;
 mod report;
@@ -17,7 +18,8 @@ pub use console::Console;
 pub use heard::Heard;
 pub use item::Item;
 pub use key::{Key, key_of};
-pub use laws::received_law;
+pub use laws::{acks_law, received_law, rows_law};
+pub use listing::{list, row_line};
 pub use row::Row;
 
 #[cfg(test)]

@@ -4,7 +4,7 @@ ghost use Rattle.pef_engine.specs.MachineView.{IsReadyFor, KeepsAllButReady};
 ghost use Rattle.trap_console.specs.View.{view_of};
 
 use super::*;
-use board_core::{Address, Octets, Step, Told};
+use board_core::{Address, MemSink, Octets, SinkFailed, Step, Told};
 use pef_engine::{Entry, Machine, MachineFault, Script, Scripted};
 use report_line::ReportLine;
 use std::test::Fail;
@@ -270,6 +270,58 @@ fn room_that_was_made_is_no_row(rt: HostRuntime) -> Result<(), Fail> {
     assert!(rt; go(&mut console, &DONE));
     assert!(rt; go(&mut console, &first));
     assert_eq!(rt; console.heard(), Heard::New(2));
+    Ok(())
+}
+
+/// The trap with this sequence number, and with this tail in place of its last octet.
+fn trap_with_tail(sequence: u8, tail: &[u8]) -> Entry<Item> {
+    let more = (tail.len() % 64) as u8;
+    let octets = changed(&[
+        (SEQUENCE, sequence),
+        (1, 0x69 + more),
+        (14, 0x5C + more),
+        (44, 0x3E + more),
+        (46, 0x3C + more),
+        (60, 0x2E + more),
+    ]);
+    let mut held = Octets::new();
+    held.extend(&octets[..107]);
+    held.extend(tail);
+    datagram(SENDER, held.as_slice())
+}
+
+#[test]
+fn each_row_is_a_line_of_the_list(rt: HostRuntime) -> Result<(), Fail> {
+    let mut console = Console::fresh(rt.alloc(), &SETTINGS)?;
+    let mut out = MemSink::new(rt.alloc(), None);
+    assert_eq!(rt; list(&console, &mut out), Ok(()));
+    assert_eq!(rt; out.written().len(), 0);
+    // A text that can be printed, three that can't, and no tail.
+    let tails = [
+        [0xC1].as_slice(),
+        [0xC4, 0x41, 0x20, 0x7E, 0x00, 0xC1].as_slice(),
+        [0xC3, 0x41, 0x7F, 0x00, 0xC1].as_slice(),
+        [0xC3, 0x1F, 0x41, 0x00, 0xC1].as_slice(),
+        [0xC2, 0x41, 0xC1].as_slice(),
+        [].as_slice(),
+    ];
+    for (i, tail) in tails.iter().enumerate() {
+        assert!(rt; go(&mut console, &trap_with_tail((i % 64) as u8 + 1, tail)));
+        assert!(rt; go(&mut console, &DONE));
+    }
+    assert!(rt; go(&mut console, &datagram(OTHER, &TRAP)));
+    assert_eq!(rt; list(&console, &mut out), Ok(()));
+    let lines = "\
+1 00112233-4455-6677-8899-aabbccddeeff 1 116387200 10.0.0.2:32768 262402 10 20 30 521020 c1
+2 00112233-4455-6677-8899-aabbccddeeff 2 116387200 10.0.0.2:32768 262402 10 20 30 521020 c441207e00c1 text A ~
+3 00112233-4455-6677-8899-aabbccddeeff 3 116387200 10.0.0.2:32768 262402 10 20 30 521020 c3417f00c1
+4 00112233-4455-6677-8899-aabbccddeeff 4 116387200 10.0.0.2:32768 262402 10 20 30 521020 c31f4100c1
+5 00112233-4455-6677-8899-aabbccddeeff 5 116387200 10.0.0.2:32768 262402 10 20 30 521020 c241c1
+6 00112233-4455-6677-8899-aabbccddeeff 6 116387200 10.0.0.2:32768 262402 10 20 30 521020 -
+";
+    assert_eq!(rt; out.written(), lines.as_bytes());
+    let mut failing = MemSink::new(rt.alloc(), Some(0));
+    assert_eq!(rt; list(&console, &mut failing), Err(SinkFailed));
     Ok(())
 }
 
