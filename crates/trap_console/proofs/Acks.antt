@@ -123,22 +123,22 @@ module _ (Z : List ℕ) where
   prescribed_acks H [] = tt
   prescribed_acks H (Taken item ∷ K) =
       subst (λ rows. AckRows (ack_port Z) (fold rows_with rows K) (prescribed_from console_rules Z (H ++ Taken item ∷ []) K)) (fold_push rows_with [] H (Taken item))
-        (prescribed_acks (H ++ Taken item ∷ []) K)
+      (prescribed_acks (H ++ Taken item ∷ []) K)
   prescribed_acks H (Outcome told ∷ K) =
       acked-append (ack_port Z) (fold rows_with (rows_of H) (Outcome told ∷ K)) (option_list (pending Z H)) (prescribed_from console_rules Z (H ++ Outcome told ∷ []) K)
-        (one_acked (ack_port Z) (rows_of H) (Outcome told ∷ K) (pending Z H) (pending_acks H))
-        (subst (λ rows. AckRows (ack_port Z) (fold rows_with rows K) (prescribed_from console_rules Z (H ++ Outcome told ∷ []) K)) (fold_push rows_with [] H (Outcome told))
-          (prescribed_acks (H ++ Outcome told ∷ []) K))
+      (one_acked (ack_port Z) (rows_of H) (Outcome told ∷ K) (pending Z H) (pending_acks H))
+      (subst (λ rows. AckRows (ack_port Z) (fold rows_with rows K) (prescribed_from console_rules Z (H ++ Outcome told ∷ []) K)) (fold_push rows_with [] H (Outcome told))
+      (prescribed_acks (H ++ Outcome told ∷ []) K))
 
   pub acks_are_rows : (H K : List (Entry Item)) (steps : List Step) → Kept console_rules Z H K steps → AckRows (ack_port Z) (rows_of (H ++ K)) steps
   acks_are_rows H K steps kept = elim kept.issued [
     | inl all ↦ subst (AckRows (ack_port Z) (rows_of (H ++ K))) (sym all) stored
     | inr more ↦
-    subst (AckRows (ack_port Z) (rows_of (H ++ K))) (sym more.2)
-      (acked-append (ack_port Z) (rows_of (H ++ K)) kept.stored (more.0 ∷ []) stored
+        subst (AckRows (ack_port Z) (rows_of (H ++ K))) (sym more.2)
+        (acked-append (ack_port Z) (rows_of (H ++ K)) kept.stored (more.0 ∷ []) stored
         (acked_due (ack_port Z) (rows_of (H ++ K)) (pending Z (H ++ K)) more.0 more.1 (pending_acks (H ++ K))))
   ]
     where
       stored : AckRows (ack_port Z) (rows_of (H ++ K)) kept.stored
       stored = acked-behind (ack_port Z) (rows_of (H ++ K)) (prescribed_from console_rules Z [] H) kept.stored
-        (subst (AckRows (ack_port Z) (rows_of (H ++ K))) kept.prescribes (prescribed_acks [] (H ++ K)))
+          (subst (AckRows (ack_port Z) (rows_of (H ++ K))) kept.prescribes (prescribed_acks [] (H ++ K)))

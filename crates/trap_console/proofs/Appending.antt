@@ -30,11 +30,11 @@ module _ {E : Type 0} (number : ℕ) (row : Row) (behind : List Row) where
       → Appends {E = E} line old mid (Ok tt) → Appends (lines_behind (number + 1) behind) mid new result → Appends (lines_behind number rows) old new result
   line_then rows line old mid new result split is first rest =
       subst (λ r. Appends (lines_behind number r) old new result) (sym split)
-        (appends_then (row_line (number + 1) row) (lines_behind (number + 1) behind) old mid new (Ok tt) result refl (subst (λ l. Appends {E = E} l old mid (Ok tt)) is first) rest)
+      (appends_then (row_line (number + 1) row) (lines_behind (number + 1) behind) old mid new (Ok tt) result refl (subst (λ l. Appends {E = E} l old mid (Ok tt)) is first) rest)
 
   -- a line that wasn't written whole
   pub line_fails : (rows : List Row) (line : List ℕ) (old new : Option (List ℕ)) (e : E) → rows ≡ row ∷ behind → line ≡ row_line (number + 1) row
       → Appends line old new (Err e) → Appends (lines_behind number rows) old new (Err e)
   line_fails rows line old new e split is failed =
       subst (λ r. Appends (lines_behind number r) old new (Err e)) (sym split)
-        (appends_more (row_line (number + 1) row) (lines_behind (number + 1) behind) old new e (subst (λ l. Appends l old new (Err e)) is failed))
+      (appends_more (row_line (number + 1) row) (lines_behind (number + 1) behind) old new e (subst (λ l. Appends l old new (Err e)) is failed))

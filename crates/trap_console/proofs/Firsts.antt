@@ -43,10 +43,10 @@ new_behind rows trap x isnt differs = by (is_some (place_in (rows ++ trap ∷ []
         let at = passes_at (is_key (key_of x.body)) (rows ++ trap ∷ []) place.0 place.1 in
         elim (push_cases rows trap place.0 at.0 at.1) [
           | inl within ↦
-          let found = some_passes (is_key (key_of x.body)) rows place.0 at.0 within at.2 in
-          absurd (both_ways (is_some (place_in rows (key_of x.body))) isnt (some_there (place_in rows (key_of x.body)) found.0 found.1))
+              let found = some_passes (is_key (key_of x.body)) rows place.0 at.0 within at.2 in
+              absurd (both_ways (is_some (place_in rows (key_of x.body))) isnt (some_there (place_in rows (key_of x.body)) found.0 found.1))
           | inr last ↦
-          absurd (both_ways (is_key (key_of trap.body) x) differs (same_way x trap (subst (λ r. is_key (key_of x.body) r ≡ true) (sym last.1) at.2)))
+              absurd (both_ways (is_key (key_of trap.body) x) differs (same_way x trap (subst (λ r. is_key (key_of x.body) r ≡ true) (sym last.1) at.2)))
         ]
 
 -- another than those and than one more is another than those, and than that one

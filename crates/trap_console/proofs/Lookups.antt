@@ -46,10 +46,10 @@ module _ (rows : List Row) (places : BTreeMap Key ℕ) (indexed : IsIndexed rows
   past place has none = elim (cases_Option (place_in rows key)) [
     | inl is ↦ is
     | inr at ↦
-    let row = passes_at (is_key key) rows at.0 at.1 in
-    let same : at.0 ≡ place = is_some_place at.0 place (sym (finds at.0 at.1) ∙ has) in
-    let got : slice_get rows place ≡ Some row.0 = subst (λ k. slice_get rows k ≡ Some row.0) same row.1 in
-    absurd (cc (none, got))
+        let row = passes_at (is_key key) rows at.0 at.1 in
+        let same : at.0 ≡ place = is_some_place at.0 place (sym (finds at.0 at.1) ∙ has) in
+        let got : slice_get rows place ≡ Some row.0 = subst (λ k. slice_get rows k ≡ Some row.0) same row.1 in
+        absurd (cc (none, got))
   ]
 
   -- nothing is found where the row at that place has another key
@@ -57,22 +57,22 @@ module _ (rows : List Row) (places : BTreeMap Key ℕ) (indexed : IsIndexed rows
   other place row has got isnt = elim (cases_Option (place_in rows key)) [
     | inl is ↦ is
     | inr at ↦
-    let one = passes_at (is_key key) rows at.0 at.1 in
-    let same : at.0 ≡ place = is_some_place at.0 place (sym (finds at.0 at.1) ∙ has) in
-    let got_one : slice_get rows place ≡ Some one.0 = subst (λ k. slice_get rows k ≡ Some one.0) same one.1 in
-    let passes : is_key key one.0 ≡ true = one.2 in
-    absurd (cc (got, got_one, passes, isnt))
+        let one = passes_at (is_key key) rows at.0 at.1 in
+        let same : at.0 ≡ place = is_some_place at.0 place (sym (finds at.0 at.1) ∙ has) in
+        let got_one : slice_get rows place ≡ Some one.0 = subst (λ k. slice_get rows k ≡ Some one.0) same one.1 in
+        let passes : is_key key one.0 ≡ true = one.2 in
+        absurd (cc (got, got_one, passes, isnt))
   ]
 
   -- a new key in the index leaves the rows in it
   stays : (count : ℕ) (new : BTreeMap Key ℕ) → place_in rows key ≡ None → Updates key_order places new key (Some count) → IsIndexed rows new
   stays count new none updates place row at = elim (cases_Bool (is_eq (key_order key (key_of row.body)))) [
     | inl equal ↦
-    let same : key ≡ key_of row.body = key_is key (key_of row.body) ((Equal-is (key_order key (key_of row.body))).0 equal) in
-    let somewhere = some_passes (is_key key) rows place row at (is_key_at key row same) in
-    absurd (let there = somewhere.1 in cc (none, there))
+        let same : key ≡ key_of row.body = key_is key (key_of row.body) ((Equal-is (key_order key (key_of row.body))).0 equal) in
+        let somewhere = some_passes (is_key key) rows place row at (is_key_at key row same) in
+        absurd (let there = somewhere.1 in cc (none, there))
     | inr apart ↦
-    updates.0 (key_of row.body) ∙ ap (λ b. cond b (Some count) (get key_order places (key_of row.body))) apart ∙ indexed place row at
+        updates.0 (key_of row.body) ∙ ap (λ b. cond b (Some count) (get key_order places (key_of row.body))) apart ∙ indexed place row at
   ]
 
   -- the rows are in the index whether it took a new key or had no memory for it

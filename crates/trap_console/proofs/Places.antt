@@ -22,15 +22,15 @@ module _ {X : Type 0} (p : X → Bool) where
   pub passes_at : (xs : List X) (j : ℕ) → position p xs ≡ Some j → (x : X) × (slice_get xs j ≡ Some x) × (p x ≡ true)
   passes_at xs j at = elim (cases_lt (position_or_len p xs) (length xs)) [
     | inl inside ↦
-    let same : position_or_len p xs ≡ j = some_is _ _ (sym (first_passes xs inside) ∙ at) in
-    elim (slice_get_cases xs (position_or_len p xs)).1 [
-      | inl x ↦ (
-        x.0,
-        subst (λ k. slice_get xs k ≡ Some x.0) same x.2,
-        subst (λ y. p y ≡ true) x.3 (passes_at_first p xs x.0 inside),
-      )
-      | inr past ↦ absurd (omega (arith, inside, past.0))
-    ]
+        let same : position_or_len p xs ≡ j = some_is _ _ (sym (first_passes xs inside) ∙ at) in
+        elim (slice_get_cases xs (position_or_len p xs)).1 [
+          | inl x ↦ (
+            x.0,
+            subst (λ k. slice_get xs k ≡ Some x.0) same x.2,
+            subst (λ y. p y ≡ true) x.3 (passes_at_first p xs x.0 inside),
+          )
+          | inr past ↦ absurd (omega (arith, inside, past.0))
+        ]
     | inr past ↦ absurd (some_none j (position p xs) (none_passes xs past) at)
   ]
 
@@ -39,9 +39,9 @@ module _ {X : Type 0} (p : X → Bool) where
   some_passes xs i x got passes = elim (cases_lt (position_or_len p xs) (length xs)) [
     | inl inside ↦ (position_or_len p xs, first_passes xs inside)
     | inr past ↦
-    let within : i < length xs = slice_get_within xs i x got in
-    let fails = fails_before_first p xs i x (omega (arith, within, past)) in
-    absurd (both_ways (p x) (subst (λ y. p y ≡ false) (get_or_from_slice_get xs i x x got) fails) passes)
+        let within : i < length xs = slice_get_within xs i x got in
+        let fails = fails_before_first p xs i x (omega (arith, within, past)) in
+        absurd (both_ways (p x) (subst (λ y. p y ≡ false) (get_or_from_slice_get xs i x x got) fails) passes)
   ]
 
 -- an element of a list with one more at its end is one of the list, or that one

@@ -43,10 +43,7 @@ impl Machine for Console {
     }
 
     fn fresh(alloc: Global, settings: &[u8]) -> Result<Self, AllocError> {
-        Ok(Console::new(
-            alloc,
-            u16::from_le_bytes([settings[0], settings[1]]),
-        ))
+        Ok(Console::new(alloc, u16::from_le_bytes([settings[0], settings[1]])))
     }
 
     fn allows(&self, entry: &Entry<Item>) -> bool {

@@ -140,7 +140,11 @@ fn each_trap_is_one_row_and_is_acknowledged(rt: HostRuntime) -> Result<(), Fail>
     for (from, change, said, sequence) in rows {
         let entry = datagram(from, &changed(&[change]));
         assert!(rt; go(&mut console, &entry));
-        assert_eq!(rt; line(&console, &entry).as_slice(), said.as_bytes(), "{said}");
+        assert_eq!(rt;
+            line(&console, &entry).as_slice(),
+            said.as_bytes(),
+            "{said}"
+        );
         assert_eq!(rt; due(&console), Some((port_623(from), sequence)), "{said}");
         assert!(rt; !go(&mut console, &entry));
         assert!(rt; go(&mut console, &FAILED));
@@ -150,7 +154,10 @@ fn each_trap_is_one_row_and_is_acknowledged(rt: HostRuntime) -> Result<(), Fail>
     // Each row is the trap as it first arrived.
     assert_eq!(rt; console.rows().len(), 4);
     for row in console.rows() {
-        assert_eq!(rt; (row.from, row.specific, row.body.severity), (SENDER, 0x04_01_02, 0x10));
+        assert_eq!(rt;
+            (row.from, row.specific, row.body.severity),
+            (SENDER, 0x04_01_02, 0x10)
+        );
     }
     Ok(())
 }
@@ -188,12 +195,19 @@ fn what_is_no_trap_is_refused_with_its_place(rt: HostRuntime) -> Result<(), Fail
     for (changes, said) in refused {
         let entry = datagram(SENDER, &changed(&changes));
         assert!(rt; go(&mut console, &entry));
-        assert_eq!(rt; line(&console, &entry).as_slice(), said.as_bytes(), "{said}");
+        assert_eq!(rt;
+            line(&console, &entry).as_slice(),
+            said.as_bytes(),
+            "{said}"
+        );
         assert_eq!(rt; due(&console), None, "{said}");
     }
     let empty = datagram(SENDER, &[]);
     assert!(rt; go(&mut console, &empty));
-    assert_eq!(rt; line(&console, &empty).as_slice(), b"refused Truncated 0\n".as_slice());
+    assert_eq!(rt;
+        line(&console, &empty).as_slice(),
+        b"refused Truncated 0\n".as_slice()
+    );
     assert!(rt; console.rows().is_empty());
     Ok(())
 }
@@ -285,7 +299,8 @@ fn trap_with_tail(sequence: u8, tail: &[u8]) -> Entry<Item> {
         (60, 0x2E + more),
     ]);
     let mut held = Octets::new();
-    held.extend(&octets[..107]);
+    held.extend(&octets);
+    held.truncate(107);
     held.extend(tail);
     datagram(SENDER, held.as_slice())
 }

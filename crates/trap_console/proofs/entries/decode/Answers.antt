@@ -10,7 +10,7 @@ returns-in-Some c = rw c.marked.ensures (decodes_mark c.args.octets.now c.in-Som
 pub returns-in_ok-from-in-None : goal.returns-in_ok-from-in-None
 returns-in_ok-from-in-None c =
     decodes_datagram c.args.octets.now c.in_ok-from-in-None.from c.in_ok-from-in-None.octets
-      (subst (ReadsMark c.args.octets.now) c.in-None.is c.read_mark.ensures) (subst (ReadsDatagram c.args.octets.now) c.in_ok-from-in-None.was c.datagram_in.ensures)
+    (subst (ReadsMark c.args.octets.now) c.in-None.is c.read_mark.ensures) (subst (ReadsDatagram c.args.octets.now) c.in_ok-from-in-None.was c.datagram_in.ensures)
 
 pub returns-in_err-from-in-None : goal.returns-in_err-from-in-None
 returns-in_err-from-in-None c =
