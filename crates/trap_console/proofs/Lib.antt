@@ -1,0 +1,10 @@
+pub mod Receiving
+pub mod Keys
+pub mod Places
+pub mod Lookups
+pub mod Behind
+pub mod Decoding
+pub mod Acks
+pub mod Firsts
+pub mod Examples
+pub mod Appending

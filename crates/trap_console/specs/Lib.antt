@@ -1,0 +1,13 @@
+pub mod Received
+pub mod Rows
+pub mod Heard
+pub mod Report
+pub mod Histories
+pub mod Index
+pub mod Ledger
+pub mod View
+pub mod Laws
+pub mod Entries
+pub mod Firsts
+pub mod Acks
+pub mod Listing
