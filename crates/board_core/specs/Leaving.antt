@@ -12,6 +12,6 @@ pub record IsLeftAt (torn : ℕ) (s : State) (left : Leaving) : Type 0 where
   pub longest : IsLongestTorn torn s.synced s.written left.image.items
   pub issued : left.issued ≡ s.issued
 
--- a crash after these calls leaves this, on a board that was made with this content and so many steps
+-- a crash after these calls leaves this, on a board that was made with this content and `earlier` steps
 abbrev pub IsLeft : ℕ → List ℕ → ℕ → List Call → Leaving → Type 0
 IsLeft torn content earlier calls left = IsLeftAt torn (state_after content earlier calls) left

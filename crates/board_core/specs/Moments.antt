@@ -26,11 +26,11 @@ pub record State : Type 1 where
   -- how many steps were issued
   pub issued : ℕ
 
--- a board is made: nothing is unsynced, and so many steps were issued before
+-- a board is made: nothing is unsynced, and `earlier` steps were issued before
 abbrev pub fresh_state : List ℕ → ℕ → State
 fresh_state content earlier = record { octets = content; images = λ c. c ≡ content; synced = content; written = []; issued = earlier }
 
--- the images after a write of so many octets, after which a read gives this file
+-- the images after a write of `count` octets at `place`, after which a read gives this file
 abbrev pub torn_images : ℕ → ℕ → List ℕ → (List ℕ → Type 0) → List ℕ → Type 0
 torn_images place count file images c = (c ≡ file) ⊎ ((d : List ℕ) × images d × Torn place count d c)
 
@@ -56,7 +56,7 @@ abbrev pub after_all : State → List Call → State
 after_all s [] = s
 after_all s (call ∷ calls) = after_all (after s call.effect) calls
 
--- where a board stands that was made with this content and so many steps, after these calls
+-- where a board stands that was made with this content and `earlier` steps, after these calls
 abbrev pub state_after : List ℕ → ℕ → List Call → State
 state_after content earlier calls = after_all (fresh_state content earlier) calls
 

@@ -1,4 +1,4 @@
-// What a crash leaves of a board in memory, as its calls are gone through once more.
+//! What a crash leaves of a board in memory, found by replaying its calls.
 ghost use Rattle.std.specs.Prelude.{◌≤◌, vec_len};
 
 use crate::call::{Call, Effect};

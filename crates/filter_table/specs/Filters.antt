@@ -15,7 +15,7 @@ number_fault count n = if is_number count n then None else Some (record { 0 = n 
 abbrev pub numbered : List (List ℕ) → ℕ → List ℕ
 numbered filters n = if n == 0 then [] else slice_index_or filters (n - 1) []
 
--- so many filters of zeros
+-- `count` filters of zeros
 abbrev pub no_filters : ℕ → List (List ℕ)
 no_filters count = replicate count (replicate 20 0)
 

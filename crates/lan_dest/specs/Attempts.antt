@@ -16,7 +16,7 @@ pub record Counted : Type 0 where
   pub ticks : ℕ
   pub acked : Bool
 
--- so many transmissions are due so many ticks after the first outcome: the first, and a retry after each whole wait
+-- how many transmissions are due this many ticks after the first outcome: the first, and a retry after each whole wait
 abbrev pub sends : ℕ → ℕ → ℕ → ℕ
 sends wait retries ticks = 1 + min retries (ticks / wait)
 
@@ -37,17 +37,21 @@ pub record Waits (alert : Counted) : Type 0 where
   pub sent : ¬ IsDue alert
   pub open_still : verdict alert ≡ None
 
--- an alert of which nothing was sent yet
-abbrev pub begun : Bool → ℕ → ℕ → Counted
-begun acknowledged wait retries = record {
+-- an alert that wasn't acknowledged so far
+abbrev pub counted : Bool → ℕ → ℕ → ℕ → Bool → ℕ → Counted
+counted acknowledged wait retries outcomes done ticks = record {
   acknowledged = acknowledged;
   wait = wait;
   retries = retries;
-  outcomes = 0;
-  done = false;
-  ticks = 0;
+  outcomes = outcomes;
+  done = done;
+  ticks = ticks;
   acked = false;
 }
+
+-- an alert of which nothing was sent yet
+abbrev pub begun : Bool → ℕ → ℕ → Counted
+begun acknowledged wait retries = counted acknowledged wait retries 0 false 0
 
 abbrev pub is_done : Told → Bool
 is_done Done = true

@@ -5,7 +5,7 @@ use Rattle.std.specs.Prelude.{◌≡◌, ℕ, ◌+◌, ◌*◌, ◌<◌, ◌≤�
 abbrev pub begun_waits : ℕ → Bool → ℕ
 begun_waits outcomes due = outcomes + (if due then 1 else 0)
 
--- Each transmission begins a wait, and the one it is in ends in so many ticks. None are left where the last one is over.
+-- Each transmission begins a wait, and the one it is in ends in `left` ticks. None are left where the last one is over.
 pub record CountsDown (wait retries outcomes ticks left : ℕ) (due : Bool) : Type 0 where
   pub some_wait : 1 ≤ wait
   pub short_wait : wait ≤ 256

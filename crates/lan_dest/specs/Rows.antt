@@ -1,8 +1,10 @@
 -- What Set and Get LAN Configuration Parameters answer: IPMI 2.0, sections 23.1 and 23.2. Which codes come, and in which order they are
 -- looked for, is this project's choice.
-use Rattle.std.specs.Prelude.{ℕ, ◌+◌, Bool, not, ◌==◌, ◌&&◌, nat_le, if◌then◌else◌, List, [], ◌∷◌, length}
+use Rattle.std.specs.Prelude.{◌≡◌, ◌≢◌, ℕ, ◌+◌, Bool, not, ◌==◌, ◌&&◌, nat_le, if◌then◌else◌, List, [], ◌∷◌, length}
 use Rattle.lan_dest.specs.Octets.{octet, bits}
-use Rattle.lan_dest.specs.Parameters.{Tables, at, is_channel, has_selector, is_selector, width}
+use Rattle.lan_dest.specs.declared.lan.Lan.{Lan}
+use Rattle.lan_dest.specs.Kept.{kept}
+use Rattle.lan_dest.specs.Parameters.{Tables, at, is_channel, has_selector, is_selector, width, written}
 
 -- 16 to 19: community string, number of destinations, destination type, destination address
 abbrev pub is_parameter : ℕ → Bool
@@ -21,6 +23,12 @@ set_code channel parameter payload =
     else (if has_selector parameter && not (is_selector (bits 3 0 (octet 1 payload))) then 0xC9
     else (if (parameter == 19) && not (bits 7 4 (octet 2 payload) == 0) then 0xCC
     else 0x00)))))
+
+-- What setting a parameter does: it answers that code, on 00h the parameter is written, and on another code nothing changes.
+pub record Sets (channel parameter : ℕ) (payload : List ℕ) (old new : Lan) (code : ℕ) : Type 0 where
+  pub answered : code ≡ set_code channel parameter payload
+  pub accepted : code ≡ 0 → kept new ≡ written (record { channel = channel; parameter = parameter; payload = payload }) (kept old)
+  pub refused : code ≢ 0 → new ≡ old
 
 -- a parameter as it is read: the number of destinations is 4, beside destination 0
 abbrev pub lan_octets : Tables → ℕ → ℕ → ℕ → List ℕ

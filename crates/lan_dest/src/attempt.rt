@@ -1,6 +1,6 @@
 //! The attempts to deliver an alert.
 ghost use Rattle.std.specs.Prelude.{◌≡◌, ◌+◌, ◌*◌, ◌<◌, ◌≤◌, ◌↔◌, ◌⊎◌, Bool, false, IsTrue};
-ghost use Rattle.lan_dest.specs.Attempts.{Counted, sends, IsDue, verdict, Waits, begun, heard, ticked, answered};
+ghost use Rattle.lan_dest.specs.Attempts.{Counted, sends, IsDue, verdict, Waits, begun, counted, heard, ticked, answered};
 
 use crate::destination::Destination;
 use board_core::Told;
@@ -53,8 +53,8 @@ impl Attempt {
         }
     }
 
-    /// The alert to a destination with this wait and these retries, after so many outcomes, of which one was done or
-    /// none, and so many ticks since the first of them.
+    /// The alert to a destination with this wait and these retries, after `outcomes` outcomes, of which one was done or none,
+    /// and `ticks` ticks since the first of them.
     pub fn resume(
         acknowledged: bool,
         wait: u16,
@@ -67,24 +67,8 @@ impl Attempt {
         requires retries { retries ≤ 7 }
         requires counted { (outcomes ≡ sends wait retries ticks) ⊎ (outcomes + 1 ≡ sends wait retries ticks) }
         requires first { outcomes ≡ 0 → (ticks ≡ 0) × (done ≡ false) }
-        requires going_on { verdict (record {
-          acknowledged = acknowledged;
-          wait = wait;
-          retries = retries;
-          outcomes = outcomes;
-          done = done;
-          ticks = ticks;
-          acked = false;
-        }) ≡ None }
-        ensures { result ≡ record {
-          acknowledged = acknowledged;
-          wait = wait;
-          retries = retries;
-          outcomes = outcomes;
-          done = done;
-          ticks = ticks;
-          acked = false;
-        } }
+        requires going_on { verdict (counted acknowledged wait retries outcomes done ticks) ≡ None }
+        ensures { result ≡ counted acknowledged wait retries outcomes done ticks }
     {
         let waits = u16::from(retries).min(ticks / wait);
         Attempt {

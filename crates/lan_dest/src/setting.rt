@@ -1,8 +1,7 @@
 //! Set LAN Configuration Parameters.
-ghost use Rattle.std.specs.Prelude.{◌≡◌, ◌≢◌, true};
-ghost use Rattle.lan_dest.specs.Kept.{kept};
-ghost use Rattle.lan_dest.specs.Parameters.{Write, is_channel, written};
-ghost use Rattle.lan_dest.specs.Rows.{set_code};
+ghost use Rattle.std.specs.Prelude.{◌≡◌, true};
+ghost use Rattle.lan_dest.specs.Parameters.{is_channel};
+ghost use Rattle.lan_dest.specs.Rows.{Sets};
 
 use crate::code::{DONE, INVALID_FIELD, LENGTH, NOT_SUPPORTED, OUT_OF_RANGE, READ_ONLY};
 use crate::lan::{DESTINATIONS, Lan, is_channel};
@@ -11,9 +10,7 @@ impl Lan {
     /// Writes a parameter of a channel, with the octets behind its number, and answers the completion code. Another code
     /// than 00h changes nothing.
     pub fn set(&mut self, channel: u8, parameter: u8, payload: &[u8]) -> u8
-        ensures code { result ≡ set_code channel parameter payload.now }
-        ensures accepted { result ≡ 0 → kept self.new ≡ written (record { channel = channel; parameter = parameter; payload = payload.now }) (kept self.old) }
-        ensures refused { result ≢ 0 → self.new ≡ self.old }
+        ensures { Sets channel parameter payload.now self.old self.new result }
     {
         if !is_channel(channel) {
             return INVALID_FIELD;
@@ -29,9 +26,7 @@ impl Lan {
 
     fn set_community(&mut self, channel: u8, payload: &[u8]) -> u8
         requires { is_channel channel ≡ true }
-        ensures code { result ≡ set_code channel 16 payload.now }
-        ensures accepted { result ≡ 0 → kept self.new ≡ written (record { channel = channel; parameter = 16; payload = payload.now }) (kept self.old) }
-        ensures refused { result ≢ 0 → self.new ≡ self.old }
+        ensures { Sets channel 16 payload.now self.old self.new result }
     {
         if payload.len() != 18 {
             return LENGTH;
@@ -44,9 +39,7 @@ impl Lan {
 
     fn set_kind(&mut self, channel: u8, payload: &[u8]) -> u8
         requires { is_channel channel ≡ true }
-        ensures code { result ≡ set_code channel 18 payload.now }
-        ensures accepted { result ≡ 0 → kept self.new ≡ written (record { channel = channel; parameter = 18; payload = payload.now }) (kept self.old) }
-        ensures refused { result ≢ 0 → self.new ≡ self.old }
+        ensures { Sets channel 18 payload.now self.old self.new result }
     {
         if payload.len() != 4 {
             return LENGTH;
@@ -63,9 +56,7 @@ impl Lan {
 
     fn set_address(&mut self, channel: u8, payload: &[u8]) -> u8
         requires { is_channel channel ≡ true }
-        ensures code { result ≡ set_code channel 19 payload.now }
-        ensures accepted { result ≡ 0 → kept self.new ≡ written (record { channel = channel; parameter = 19; payload = payload.now }) (kept self.old) }
-        ensures refused { result ≢ 0 → self.new ≡ self.old }
+        ensures { Sets channel 19 payload.now self.old self.new result }
     {
         if payload.len() != 13 {
             return LENGTH;

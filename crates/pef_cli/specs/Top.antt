@@ -3,10 +3,10 @@ use Rattle.std.specs.Prelude.{◌≡◌, ℕ, List, Some, None}
 use Rattle.pef_cli.specs.declared.form.Form.{Form}
 use Rattle.pef_cli.specs.Words.{paths_of, two_files}
 
--- the words are no form
+-- unknown command or wrong arguments
 abbrev pub IsNoForm : List (List ℕ) → Type 0
 IsNoForm words = paths_of words ≡ None
 
--- the words are of this form, which has two files
+-- a call of this form, which has two files
 abbrev pub IsOfForm : Form → List (List ℕ) → Type 0
 IsOfForm form words = paths_of words ≡ Some (two_files form)

@@ -63,19 +63,19 @@ pub record Decodes {I : Type 0} (rules : Rules I) (octets : List ℕ) (decoded :
   pub found : (e : Entry I) → rules.is_entry e → rules.encode e ≡ octets → decoded ≡ Some e
   pub right : (e : Entry I) → decoded ≡ Some e → rules.is_entry e × (rules.encode e ≡ octets)
 
--- the file stands for this history
+-- the file holds this history
 abbrev pub Stands : {I : Type 0} → Rules I → List ℕ → List (Entry I) → List ℕ → Type 0
 Stands rules Z H file = image.Stands rules.kind Z (map rules.encode H) file
 
--- the file stands for a lawful history
+-- the file holds a lawful history
 abbrev pub StandsForSome : {I : Type 0} → Rules I → List ℕ → Type 0
 StandsForSome {I} rules file = (Z : List ℕ) × (H : List (Entry I)) × Lawful rules Z H × Stands rules Z H file
 
--- the file stands for no lawful history
+-- the file is not a valid state file of this kind
 abbrev pub StandsForNone : {I : Type 0} → Rules I → List ℕ → Type 0
 StandsForNone {I} rules file = (Z : List ℕ) (H : List (Entry I)) → Lawful rules Z H → Stands rules Z H file → ⊥
 
--- At this gate the file stops standing for a lawful history: no entry and next gate lie within the file behind it, or the entry is
+-- At this gate the file stops holding a lawful history: no entry and next gate lie within the file behind it, or the entry is
 -- none that may come behind those before it.
 pub record BreaksAt {I : Type 0} (rules : Rules I) (at : ℕ) (file : List ℕ) : Type 0 where
   pub settings : List ℕ

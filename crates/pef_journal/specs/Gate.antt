@@ -4,7 +4,7 @@ use Rattle.pef_journal.specs.Image.{IsShutAt, IsCorruptAt}
 use Rattle.pef_journal.specs.declared.gate.Gate.{Gate}
 use Rattle.pef_journal.specs.declared.gate.Gate.TheVariants.{Closed, Corrupt, Open}
 
--- an entry of so many octets at this place, and the next gate, lie before this end
+-- an entry of n octets at this place, and the next gate, lie before this end
 abbrev pub LiesWithin : ℕ → ℕ → ℕ → Type 0
 LiesWithin gate n end = (1 ≤ n) × (n ≤ 520) × (gate + 3 + n < end)
 

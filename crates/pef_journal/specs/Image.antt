@@ -1,4 +1,4 @@
--- What the octets of a state file stand for.
+-- Which entries the octets of a state file hold.
 --
 -- Octet 0 is A5h, octet 1 the kind's number, octets 2 and 3 the settings' length, least significant first; the settings
 -- follow, and behind them the first gate. Behind an open gate stand the length of an entry in two octets, its octets and the
@@ -56,11 +56,11 @@ abbrev pub IsFormatted : List FileKind → List ℕ → Type 0
 IsFormatted [] file = ⊥
 IsFormatted (kind ∷ kinds) file = IsForKind kind file ⊎ IsFormatted kinds file
 
--- the file stands for these entries
+-- the file holds these entries
 abbrev pub Stands : FileKind → List ℕ → List (List ℕ) → List ℕ → Type 0
 Stands kind settings entries file = (rest : List ℕ) × HasHeader kind settings rest file × HasEntries entries rest
 
--- whatever settings and entries are named, the file doesn't stand for them
+-- the file holds no entries under any settings: it is not a valid file of this kind
 abbrev pub StandsForNone : FileKind → List ℕ → Type 0
 StandsForNone kind file = (settings : List ℕ) (entries : List (List ℕ)) → Stands kind settings entries file → ⊥
 
@@ -76,7 +76,7 @@ IsOpenAt file gate = (gate < length file) × (slice_index file gate ≡ 165)
 abbrev pub length_at : List ℕ → ℕ → ℕ
 length_at file gate = slice_index file (gate + 1) + 256 * slice_index file (gate + 2)
 
--- behind the gate at this place stand a length of 1 to 520, so many octets and the next gate, all of it in the file
+-- behind the gate at this place stand a length of 1 to 520, an entry of that length and the next gate, all of it in the file
 abbrev pub HasEntryWithin : List ℕ → ℕ → Type 0
 HasEntryWithin file gate = (1 ≤ length_at file gate) × (length_at file gate ≤ 520) × (gate + 3 + length_at file gate < length file)
 

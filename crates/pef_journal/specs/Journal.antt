@@ -10,7 +10,7 @@ use Rattle.pef_journal.specs.declared.journal.Journal.{Journal}
 abbrev pub HasEnded : Journal → Type 0
 HasEnded journal = IsTrue journal.ended
 
--- a gate and an entry of so many octets fit behind the last entry
+-- a gate and an entry of n octets fit behind the last entry
 abbrev pub HasRoom : Journal → ℕ → Type 0
 HasRoom journal n = journal.place + 4 + n ≤ 16777216
 
@@ -66,6 +66,6 @@ Finds file gate out (Err DiskFault) = ⊤
 Finds file gate out (Err NotFormatted) = ⊥
 Finds file gate out (Err Full) = ⊥
 
--- the file stands for the entries, with one more or without it
+-- the file holds the entries, with one more or without it
 abbrev pub StandsForEither : FileKind → List ℕ → List (List ℕ) → List ℕ → List ℕ → Type 0
 StandsForEither kind settings entries entry file = Stands kind settings entries file ⊎ Stands kind settings (entries ++ entry ∷ []) file

@@ -15,11 +15,7 @@ use board_core::{Board, Bytes, DiskFailed};
 
 /// Makes a file of this kind that holds no entries, with these settings, which have the kind's length. What lies behind the
 /// first gate stays. On the way a crash leaves the file as it was, or one that isn't marked as formatted, or the new one.
-pub fn format<B: Board>(
-    board: &mut B,
-    kind: FileKind,
-    settings: &[u8],
-) -> Result<(), DiskFailed>
+pub fn format<B: Board>(board: &mut B, kind: FileKind, settings: &[u8]) -> Result<(), DiskFailed>
     requires lasting { IsTrue (B.view board.old).tells → Only (B.view board.old).octets (B.view board.old).images }
     requires settings { HasSettingsLength kind settings.now }
     ensures done { IsTrue (B.view board.new).tells → OnOk result (Stands kind settings.now [] (B.view board.new).octets

@@ -14,7 +14,7 @@ pub enum Gate {
     Closed,
     /// The gate doesn't lie within the file, or no entry of 1 to 520 octets and the next gate do behind it.
     Corrupt,
-    /// Behind it stands an entry of so many octets.
+    /// Behind it stands an entry of this length.
     Open(usize),
 }
 
@@ -51,7 +51,7 @@ fn is_open(octet: u8) -> bool
     octet == OPEN
 }
 
-/// Puts so many octets from a place on into `out`.
+/// Puts `count` octets from a place on into `out`.
 pub fn read_octets<B: Board>(
     board: &mut B,
     place: u64,

@@ -29,7 +29,7 @@ impl Journal {
         self.ended
     }
 
-    /// True where an entry of so many octets fits: up to the gate behind it there are at most 16,777,216 octets. What lies behind the
+    /// True where an entry of `length` octets fits: up to the gate behind it there are at most 16,777,216 octets. What lies behind the
     /// last gate of a file that was longer before it was formatted doesn't count.
     pub fn room(&self, length: usize) -> bool
         ensures { IsTrue result ↔ HasRoom self.now length }

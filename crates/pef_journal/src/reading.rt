@@ -23,7 +23,7 @@ impl Journal {
         ensures entry { IsTrue (B.view board.new).tells → (kind : FileKind) (settings : List ℕ) (before after : List (List ℕ)) →
             IsAt kind settings before after (B.view board.old) self.old →
             IfOk result (GivesEntry kind settings before after (B.view board.new) self.new out.new) }
-        // where the file stands for entries, only the disk stops the reading
+        // where the file holds entries, only the disk stops the reading
         ensures whole { IsTrue (B.view board.new).tells → (kind : FileKind) (settings : List ℕ) (before after : List (List ℕ)) →
             IsAt kind settings before after (B.view board.old) self.old →
             OnErr result (IsErrOf result JournalFault.DiskFault) }

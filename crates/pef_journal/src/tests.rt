@@ -191,7 +191,10 @@ fn a_file_is_formatted_as_the_kinds_that_are_given(rt: HostRuntime) -> Result<()
         let mut board = MemBoard::new(alloc, file, &[], &[])?;
         assert_eq!(rt; is_formatted(&mut board, &[SHORT])?, is_short);
         assert_eq!(rt; is_formatted(&mut board, &[LONG])?, is_long);
-        assert_eq!(rt; is_formatted(&mut board, &[SHORT, LONG])?, is_short || is_long);
+        assert_eq!(rt;
+            is_formatted(&mut board, &[SHORT, LONG])?,
+            is_short || is_long
+        );
         assert!(rt; !is_formatted(&mut board, &[])?);
         assert_eq!(rt; board.octets(), file);
     }

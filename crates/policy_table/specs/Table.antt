@@ -3,7 +3,7 @@
 use Rattle.std.specs.Prelude.{◌≡◌, ◌≢◌, ◌≤◌, ℕ, ◌-◌, ◌&&◌, nat_le, List, [], ◌∷◌, length, replicate, slice_get, Option, Some, None, if◌then◌else◌}
 use Rattle.policy_table.specs.declared.fault.NoSuch.{NoSuch}
 
--- so many entries of zeros
+-- `count` entries of zeros
 abbrev pub zero_entries : ℕ → List (List ℕ)
 zero_entries count = replicate count (0 ∷ 0 ∷ 0 ∷ [])
 

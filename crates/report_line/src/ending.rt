@@ -8,9 +8,9 @@ use crate::builder::{LineBuilder, ReportLine};
 /// How a call of the program ends.
 #[derive(Clone, Copy, Debug, PartialEq, Eq)]
 pub enum Ending {
-    /// All was done; so many items were taken.
+    /// All was done; `count` items were taken.
     Done { count: u32 },
-    /// The words of the call are no form of it.
+    /// Unknown command, or wrong arguments.
     Usage,
     /// The file is no valid state file of its kind.
     Unformatted,

@@ -30,7 +30,7 @@ pub lines_last : (b : ℕ) (line : List ℕ) → HasNoEnd (b ∷ line) → lines
 lines_last b [] none = lines_octet b [] none.0 refl
 lines_last b (c ∷ line) none = lines_octet b (c ∷ line) none.0 (ne_eqb c 10 none.1.0) ∙ ap (onto_first b) (lines_last c line none.1)
 
--- the first of these lines has at least so many octets
+-- the first of these lines has at least n octets
 pub record BeginsLong (n : ℕ) (all : List (List ℕ)) : Type 0 where
   pub line : List ℕ
   pub more : List (List ℕ)

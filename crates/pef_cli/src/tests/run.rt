@@ -3,6 +3,7 @@ use super::{
     CLOSED, CONSOLE, Case, DONE, EVENT, FAILED, MADE, OPENED, SAID, SCRIPT, check, event, file_with,
 };
 use std::alloc::{AllocError, Global};
+use std::process::Abort;
 
 const RUN: [&str; 3] = ["run", "state", "script"];
 
@@ -115,112 +116,131 @@ fn with_long_line(alloc: Global) -> Result<String, AllocError> {
     Ok(text)
 }
 
+// A bad line: why it is one, the script, the entries before and behind, what is said, and the records whose steps were issued.
+struct BadLine {
+    what: &'static str,
+    text: &'static str,
+    before: &'static [&'static [u8]],
+    written: &'static str,
+    after: &'static [&'static [u8]],
+    steps: &'static [u16],
+}
+
+const BAD_LINES: [BadLine; 10] = [
+    BadLine {
+        what: "no line",
+        text: "",
+        before: &[],
+        written: "line 1\n",
+        after: &[],
+        steps: &[],
+    },
+    BadLine {
+        what: "a digit is missing in the script's number",
+        text: "script 0000001 0\nend\n",
+        before: &[],
+        written: "line 1\n",
+        after: &[],
+        steps: &[],
+    },
+    BadLine {
+        what: "a count above 1,000,000",
+        text: "script 00000001 1000001\nend\n",
+        before: &[],
+        written: "line 1\n",
+        after: &[],
+        steps: &[],
+    },
+    BadLine {
+        what: "a digit is missing in an event",
+        text: "script 00000001 1\nevent 01000200ca9a3b20000404300152102\nend\n",
+        before: &[],
+        written: "open 00000001 1\nline 2\n",
+        after: &[&OPENED],
+        steps: &[],
+    },
+    BadLine {
+        what: "no event where two are counted",
+        text: "script 00000001 2\nend\n",
+        before: &[],
+        written: "open 00000001 2\nline 2\n",
+        after: &[&TWO_OPENED],
+        steps: &[],
+    },
+    BadLine {
+        what: "one event where two are counted",
+        text: "script 00000001 2\nevent 01000200ca9a3b200004043001521020\nend\n",
+        before: &[],
+        written: "open 00000001 2\nevent 0001\nact diagnostic 0001 done\nline 3\n",
+        after: &[&TWO_OPENED, &EVENT, &DONE],
+        steps: &[1],
+    },
+    BadLine {
+        what: "two events where one is counted",
+        text: "script 00000001 1\nevent 01000200ca9a3b200004043001521020\nevent 01000200ca9a3b200004043001521020\nend\n",
+        before: &[],
+        written: "open 00000001 1\nevent 0001\nact diagnostic 0001 done\nline 3\n",
+        after: &[&OPENED, &EVENT, &DONE],
+        steps: &[1],
+    },
+    BadLine {
+        what: "no end",
+        text: "script 00000001 1\nevent 01000200ca9a3b200004043001521020\n",
+        before: &[],
+        written: "open 00000001 1\nevent 0001\nact diagnostic 0001 done\nline 3\n",
+        after: &[&OPENED, &EVENT, &DONE],
+        steps: &[1],
+    },
+    BadLine {
+        what: "no end, behind an event that was taken before",
+        text: "script 00000001 1\nevent 01000200ca9a3b200004043001521020\n",
+        before: &[&OPENED, &EVENT, &DONE],
+        written: "line 3\n",
+        after: &[&OPENED, &EVENT, &DONE],
+        steps: &[],
+    },
+    BadLine {
+        what: "no end, of a script that was closed before",
+        text: "script 00000001 1\nevent 01000200ca9a3b200004043001521020\n",
+        before: &[&OPENED, &EVENT, &DONE, &CLOSED],
+        written: "line 3\n",
+        after: &[&OPENED, &EVENT, &DONE, &CLOSED],
+        steps: &[],
+    },
+];
+
+fn check_bad_line(rt: &impl Abort, alloc: Global, text: &str, row: &BadLine) {
+    let before = file_with(alloc, row.before).expect(rt, "memory");
+    let after = file_with(alloc, row.after).expect(rt, "memory");
+    let case = Case {
+        what: row.what,
+        file: before.as_slice(),
+        text,
+        status: 4,
+        written: row.written,
+        after: after.as_slice(),
+        steps: row.steps,
+        ..WORKED
+    };
+    check(rt, alloc, &RUN, &case);
+}
+
 #[test]
 fn run_takes_what_stands_before_the_first_bad_line(rt: HostRuntime) {
     let alloc = rt.alloc();
-    let begun = file_with(alloc, &[&OPENED]).expect(&rt, "memory");
-    let two_begun = file_with(alloc, &[&TWO_OPENED]).expect(&rt, "memory");
-    let taken = file_with(alloc, &[&OPENED, &EVENT, &DONE]).expect(&rt, "memory");
-    let one_of_two = file_with(alloc, &[&TWO_OPENED, &EVENT, &DONE]).expect(&rt, "memory");
-    let whole = file_with(alloc, &[&OPENED, &EVENT, &DONE, &CLOSED]).expect(&rt, "memory");
-    let long = with_long_line(alloc).expect(&rt, "memory");
-    // why a line is bad; the script, the file before, what is said, the file behind, and the steps
-    let rows: [(&str, &str, &[u8], &str, &[u8], &[u16]); 11] = [
-        ("no line", "", &MADE, "line 1\n", &MADE, &[]),
-        (
-            "a digit is missing in the script's number",
-            "script 0000001 0\nend\n",
-            &MADE,
-            "line 1\n",
-            &MADE,
-            &[],
-        ),
-        (
-            "a count above 1,000,000",
-            "script 00000001 1000001\nend\n",
-            &MADE,
-            "line 1\n",
-            &MADE,
-            &[],
-        ),
-        (
-            "a digit is missing in an event",
-            "script 00000001 1\nevent 01000200ca9a3b20000404300152102\nend\n",
-            &MADE,
-            "open 00000001 1\nline 2\n",
-            begun.as_slice(),
-            &[],
-        ),
-        (
-            "no event where two are counted",
-            "script 00000001 2\nend\n",
-            &MADE,
-            "open 00000001 2\nline 2\n",
-            two_begun.as_slice(),
-            &[],
-        ),
-        (
-            "one event where two are counted",
-            "script 00000001 2\nevent 01000200ca9a3b200004043001521020\nend\n",
-            &MADE,
-            "open 00000001 2\nevent 0001\nact diagnostic 0001 done\nline 3\n",
-            one_of_two.as_slice(),
-            &[1],
-        ),
-        (
-            "a line of 1,201 octets",
-            long.as_str(),
-            &MADE,
-            "open 00000001 2\nevent 0001\nact diagnostic 0001 done\nline 3\n",
-            one_of_two.as_slice(),
-            &[1],
-        ),
-        (
-            "two events where one is counted",
-            "script 00000001 1\nevent 01000200ca9a3b200004043001521020\nevent 01000200ca9a3b200004043001521020\nend\n",
-            &MADE,
-            "open 00000001 1\nevent 0001\nact diagnostic 0001 done\nline 3\n",
-            taken.as_slice(),
-            &[1],
-        ),
-        (
-            "no end",
-            "script 00000001 1\nevent 01000200ca9a3b200004043001521020\n",
-            &MADE,
-            "open 00000001 1\nevent 0001\nact diagnostic 0001 done\nline 3\n",
-            taken.as_slice(),
-            &[1],
-        ),
-        (
-            "no end, behind an event that was taken before",
-            "script 00000001 1\nevent 01000200ca9a3b200004043001521020\n",
-            taken.as_slice(),
-            "line 3\n",
-            taken.as_slice(),
-            &[],
-        ),
-        (
-            "no end, of a script that was closed before",
-            "script 00000001 1\nevent 01000200ca9a3b200004043001521020\n",
-            whole.as_slice(),
-            "line 3\n",
-            whole.as_slice(),
-            &[],
-        ),
-    ];
-    for (what, text, file, written, after, steps) in rows {
-        let case = Case {
-            what,
-            file,
-            text,
-            status: 4,
-            written,
-            after,
-            steps,
-            ..WORKED
-        };
-        check(&rt, alloc, &RUN, &case);
+    for row in &BAD_LINES {
+        check_bad_line(&rt, alloc, row.text, row);
     }
+    let long = with_long_line(alloc).expect(&rt, "memory");
+    let row = BadLine {
+        what: "a line of 1,201 octets",
+        text: "",
+        before: &[],
+        written: "open 00000001 2\nevent 0001\nact diagnostic 0001 done\nline 3\n",
+        after: &[&TWO_OPENED, &EVENT, &DONE],
+        steps: &[1],
+    };
+    check_bad_line(&rt, alloc, long.as_str(), &row);
 }
 
 #[test]

@@ -16,7 +16,7 @@ returns-in_err-format-clause-moments g c = λ tells.
     (c.is_formatted.ensures.octets tells_mid) (λ is. both_ways c.in_ok-is_formatted.field-0 c.if-branch.false ((c.in_ok-is_formatted.ensures.formatted tells_mid).1 is)) c.in_ok-settings.ensures.given new
     (c.in_ok-is_formatted.ensures.ok tells_mid)
     (subst (λ k. LeavesOnly mid new (LeavesMaking k c.in_ok-settings.settings mid)) c.kind.ensures
-        (subst (λ settings. LeavesOnly mid new (LeavesMaking c.kind.result settings mid)) c.as_slice.ensures (c.format.ensures.any_moment tells)))
+    (subst (λ settings. LeavesOnly mid new (LeavesMaking c.kind.result settings mid)) c.as_slice.ensures (c.format.ensures.any_moment tells)))
 
 pub returns-clause-moments : goal.returns-clause-moments
 returns-clause-moments g c = λ tells.
@@ -28,4 +28,4 @@ returns-clause-moments g c = λ tells.
     (c.is_formatted.ensures.octets tells_mid) (λ is. both_ways c.in_ok-is_formatted.field-0 c.if-branch.false ((c.in_ok-is_formatted.ensures.formatted tells_mid).1 is)) c.in_ok-settings.ensures.given new
     (c.in_ok-is_formatted.ensures.ok tells_mid)
     (subst (λ k. LeavesOnly mid new (LeavesMaking k c.in_ok-settings.settings mid)) c.kind.ensures
-        (subst (λ settings. LeavesOnly mid new (LeavesMaking c.kind.result settings mid)) c.as_slice.ensures (c.format.ensures.any_moment tells)))
+    (subst (λ settings. LeavesOnly mid new (LeavesMaking c.kind.result settings mid)) c.as_slice.ensures (c.format.ensures.any_moment tells)))
