@@ -86,8 +86,7 @@ no_step = None
 
 abbrev pub shelf_rules : Rules ScriptStep
 shelf_rules = record {
-  kind = 2;
-  settings = 2;
+  kind = record { number = 2; settings = 2 };
   is_entry = λ e. IsShelfEntry e;
   encode = shelf_encode;
   pending = λ Z H. no_step;

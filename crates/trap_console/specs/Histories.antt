@@ -58,8 +58,7 @@ IsOver rows Close = ⊥
 -- An item comes where the rule of scripts lets it come.
 abbrev pub console_rules : Rules Item
 console_rules = record {
-  kind = 2;
-  settings = 2;
+  kind = record { number = 2; settings = 2 };
   is_entry = λ entry. IsEntry entry;
   encode = encode;
   pending = pending;

@@ -1,5 +1,4 @@
 //! The console as a machine over its history.
-ghost use Rattle.std.specs.Prelude.{refl};
 ghost use Rattle.trap_console.specs.Histories.{console_rules};
 ghost use Rattle.trap_console.specs.View.{view_of};
 ghost use Rattle.trap_console.specs.Laws.{console_agrees, same_size, are_entries, some_octet};
@@ -9,12 +8,14 @@ use crate::entries;
 use crate::item::Item;
 use board_core::{Payload, Step};
 use pef_engine::{Entry, Machine, MachineFault};
+use pef_journal::FileKind;
 use std::alloc::{AllocError, Global};
 
 /// The kind of a console's state file.
-const KIND: u8 = 2;
-/// How many octets of settings it has.
-const SETTINGS: usize = 2;
+const KIND: FileKind = FileKind {
+    number: 2,
+    settings: 2,
+};
 
 /// A console's settings are the port for acknowledgements, the least significant octet first.
 impl Machine for Console {
@@ -30,16 +31,10 @@ impl Machine for Console {
 
     ghost are_entries = { are_entries };
 
-    ghost kind_fits = { refl };
-
     ghost some_octet = { some_octet };
 
-    fn kind() -> u8 {
+    fn kind() -> FileKind {
         KIND
-    }
-
-    fn settings_length() -> usize {
-        SETTINGS
     }
 
     fn fresh(alloc: Global, settings: &[u8]) -> Result<Self, AllocError> {

@@ -1,5 +1,5 @@
 // A machine that has room for three items, and takes the room for each when it gets ready for it.
-ghost use Rattle.std.specs.Prelude.{refl, ◌≡◌, ◌↔◌, ◌+◌, ◌<◌, ◌≤◌, [], ◌∷◌, Some, OnOk, IsErrOf, vec_len, vec_capacity};
+ghost use Rattle.std.specs.Prelude.{◌≡◌, ◌↔◌, ◌+◌, ◌<◌, ◌≤◌, [], ◌∷◌, Some, OnOk, IsErrOf, vec_len, vec_capacity};
 ghost use Rattle.pef_engine.specs.declared.entry.Entry.{Entry};
 ghost use Rattle.pef_engine.specs.Rules.{Decodes};
 ghost use Rattle.script_run.specs.Shelf.{shelf_rules, shelf_view, shelf_scripts, shelf_agrees, shelf_scripted, shelf_size, shelf_entries, shelf_octet, IsShelfEntry, HasPlaceFor, put_by, entry_of};
@@ -9,6 +9,7 @@ use pef_engine::{
     Entry, Machine, MachineFault, Mark, Script, ScriptStep, Scripted, may_come, read_mark,
     script_behind, write_mark,
 };
+use pef_journal::FileKind;
 use report_line::{LineBuilder, ReportLine};
 use std::alloc::{AllocError, Global};
 
@@ -37,16 +38,13 @@ impl Machine for Shelf {
 
     ghost are_entries = { shelf_entries };
 
-    ghost kind_fits = { refl };
-
     ghost some_octet = { shelf_octet };
 
-    fn kind() -> u8 {
-        2
-    }
-
-    fn settings_length() -> usize {
-        2
+    fn kind() -> FileKind {
+        FileKind {
+            number: 2,
+            settings: 2,
+        }
     }
 
     fn fresh(alloc: Global, _settings: &[u8]) -> Result<Self, AllocError> {
