@@ -49,7 +49,7 @@ encode (Taken (Open id count)) = mark_octets (Opened id count)
 encode (Taken Close) = mark_octets Closed
 encode (Outcome told) = mark_octets (Told told)
 
--- the datagram would be a row more than there may be: row 65,537
+-- the datagram would be a row more than the 65,536 that there may be
 abbrev pub IsOver : List Row → Item → Type 0
 IsOver rows (Datagram from octets) = IsNew rows (received from octets) × (row_limit ≤ length rows)
 IsOver rows (Open id count) = ⊥
