@@ -2,7 +2,7 @@
 use Rattle.std.proofs.Common.{◌≡◌, ◌≢◌, ◌⊎◌, inl, inr, ℕ, ◌+◌, ◌/◌, ◌%◌, ◌≤◌, IsTrue, List, [], ◌∷◌, ◌++◌, length, get_or, take, drop, refl, sym, ◌∙◌, ap, subst, arith, append_assoc, length-append}
 use Rattle.std.proofs.lemmas.Bool.{cases_eq}
 use Rattle.std.proofs.lemmas.List.{drop_more, drop-drop}
-use Rattle.board_core.specs.Board.{BoardView, CrashState, IsSound, IsFileRun, Reads, LeavesOnly, SameSteps, Torn, Holds, Only}
+use Rattle.board_core.specs.Board.{BoardView, CrashState, IsSound, IsFileRun, Reads, LeavesOnly, Torn, Holds, Only}
 use Rattle.pef_journal.specs.declared.kind.FileKind.{FileKind}
 use Rattle.pef_journal.specs.Image.{header, HasSettingsLength, IsForKind, IsFormatted, IsMarked, Stands}
 use Rattle.pef_journal.specs.Format.{body, MayBeMarked, IsUnmarked, IsSameOrUnmarked, LeavesUnmarked, LeavesMaking}

@@ -209,18 +209,21 @@ const BAD_LINES: [BadLine; 10] = [
     },
 ];
 
-fn check_bad_line(rt: &impl Abort, alloc: Global, text: &str, row: &BadLine) {
+fn check_bad_line(rt: &impl Abort, alloc: Global, row: &BadLine) {
     let before = file_with(alloc, row.before).expect(rt, "memory");
     let after = file_with(alloc, row.after).expect(rt, "memory");
     let case = Case {
         what: row.what,
         file: before.as_slice(),
-        text,
+        text: row.text,
+        failing_disk: &[],
+        failing_issue: &[],
+        failing_source: &[],
+        failing_sink: None,
         status: 4,
         written: row.written,
         after: after.as_slice(),
         steps: row.steps,
-        ..WORKED
     };
     check(rt, alloc, &RUN, &case);
 }
@@ -229,18 +232,29 @@ fn check_bad_line(rt: &impl Abort, alloc: Global, text: &str, row: &BadLine) {
 fn run_takes_what_stands_before_the_first_bad_line(rt: HostRuntime) {
     let alloc = rt.alloc();
     for row in &BAD_LINES {
-        check_bad_line(&rt, alloc, row.text, row);
+        check_bad_line(&rt, alloc, row);
     }
+}
+
+#[test]
+fn run_takes_what_stands_before_a_line_of_1201_octets(rt: HostRuntime) {
+    let alloc = rt.alloc();
+    let one_of_two = file_with(alloc, &[&TWO_OPENED, &EVENT, &DONE]).expect(&rt, "memory");
     let long = with_long_line(alloc).expect(&rt, "memory");
-    let row = BadLine {
+    let case = Case {
         what: "a line of 1,201 octets",
-        text: "",
-        before: &[],
+        file: &MADE,
+        text: long.as_str(),
+        failing_disk: &[],
+        failing_issue: &[],
+        failing_source: &[],
+        failing_sink: None,
+        status: 4,
         written: "open 00000001 2\nevent 0001\nact diagnostic 0001 done\nline 3\n",
-        after: &[&TWO_OPENED, &EVENT, &DONE],
+        after: one_of_two.as_slice(),
         steps: &[1],
     };
-    check_bad_line(&rt, alloc, long.as_str(), &row);
+    check(&rt, alloc, &RUN, &case);
 }
 
 #[test]
