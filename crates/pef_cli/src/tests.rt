@@ -1,4 +1,5 @@
 // Calls of the program on objects in memory: what the files of each form are, what it leaves and says.
+mod again;
 mod commands;
 mod crash;
 mod fault;

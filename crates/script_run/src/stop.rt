@@ -58,7 +58,7 @@ impl From<LineStop> for ScriptStop {
 pub(crate) fn stop_of(fault: EngineFault) -> StepStop
     ensures disk { result ≡ StepStop.Disk ↔ fault ≡ EngineFault.DiskFault }
     ensures full { result ≡ StepStop.Full ↔ fault ≡ EngineFault.Full }
-    ensures memory { result ≡ StepStop.Memory → (fault ≡ EngineFault.Full → ⊥) × (fault ≡ EngineFault.DiskFault → ⊥) }
+    ensures memory { result ≡ StepStop.Memory ↔ ((fault ≡ EngineFault.Full → ⊥) × (fault ≡ EngineFault.DiskFault → ⊥)) }
     ensures output { result ≡ StepStop.Output → ⊥ }
 {
     match fault {

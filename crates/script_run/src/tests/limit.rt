@@ -23,7 +23,7 @@ const OPEN_0: [u8; 12] = [0xA5, 9, 0, 5, 1, 0, 0, 0, 0, 0, 0, 0];
 
 pub(super) const OPEN_3: [u8; 12] = [0xA5, 9, 0, 5, 1, 0, 0, 0, 3, 0, 0, 0];
 
-const OPEN_4: [u8; 12] = [0xA5, 9, 0, 5, 1, 0, 0, 0, 4, 0, 0, 0];
+pub(super) const OPEN_4: [u8; 12] = [0xA5, 9, 0, 5, 1, 0, 0, 0, 4, 0, 0, 0];
 
 const OPEN_NEXT: [u8; 12] = [0xA5, 9, 0, 5, 2, 0, 0, 0, 1, 0, 0, 0];
 
@@ -35,7 +35,7 @@ pub(super) const THREE: &str = "script 00000001 3\nput\nput\nput\nend\n";
 
 const FOUR: &str = "script 00000001 4\nput\nput\nput\nput\nend\n";
 
-const NEXT: &str = "script 00000002 1\nput\nend\n";
+pub(super) const NEXT: &str = "script 00000002 1\nput\nend\n";
 
 // A run over these entries, what it answers and writes, and which entries are in the file then.
 #[derive(Clone, Copy)]

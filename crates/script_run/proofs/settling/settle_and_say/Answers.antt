@@ -45,4 +45,4 @@ returns-in-Err-clause-goes g c =
           },
     ))
     of.output s.counts (λ disk. is_err (of.disk.0 disk)) (λ failed. of.disk.1 (err_is failed))
-    (λ memory. absurd (⊎_elim (λ full. (of.memory memory).0 (err_is full)) (λ disk. (of.memory memory).1 (err_is disk)) (s.causes refl))))
+    (λ memory. absurd (⊎_elim (λ full. (of.memory.0 memory).0 (err_is full)) (λ disk. (of.memory.0 memory).1 (err_is disk)) (s.causes refl))))

@@ -24,7 +24,7 @@ returns-in-Err-clause-goes g c =
       },
     ))
     of.output s.counts (λ disk. is_err (of.disk.0 disk)) (λ failed. of.disk.1 (err_is failed))
-    (λ memory. ⊎_elim (λ full. absurd ((of.memory memory).0 (err_is full))) (λ more. ⊎_elim (λ disk. absurd ((of.memory memory).1 (err_is disk))) (λ takes. takes) more) (s.other refl))
+    (λ memory. ⊎_elim (λ full. absurd ((of.memory.0 memory).0 (err_is full))) (λ more. ⊎_elim (λ disk. absurd ((of.memory.0 memory).1 (err_is disk))) (λ takes. takes) more) (s.other refl))
 
 pub returns-in_err-say_taken-clause-goes : goal.returns-in_err-say_taken-clause-goes
 returns-in_err-say_taken-clause-goes g c =
