@@ -36,7 +36,7 @@ pub fn padded(alloc: Global, gap: usize, octets: &[u8]) -> Result<Vec<u8>, Alloc
     Ok(padded)
 }
 
-/// So many octets of one value.
+/// `count` copies of `octet`.
 pub fn filled(alloc: Global, count: usize, octet: u8) -> Result<Vec<u8>, AllocError>
     ensures { IfOk result (λ row. row.items ≡ replicate count octet) }
 {

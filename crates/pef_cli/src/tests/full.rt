@@ -14,8 +14,8 @@ const SCRIPT: &str = "script 00000001 1\nevent 04000200ca9a3b200004043001521020\
 // A script of no event is opened and closed.
 const IDLE: [u8; 16] = [0xa5, 9, 0, 5, 2, 0, 0, 0, 0, 0, 0, 0, 0xa5, 1, 0, 6];
 
-// So many octets stand from the last gate of the file on to the end of the largest one. At its front are so many scripts of no
-// event, 16 octets each, and so many events with their outcomes, 25 octets each. So many of the script's entries are stored.
+// `left` octets stand from the last gate of the file on to the end of the largest one. At its front are `idle` scripts of no event,
+// 16 octets each, and `acts` events with their outcomes, 25 octets each. `stored` of the script's entries are stored.
 #[derive(Clone, Copy)]
 struct Case<'a> {
     left: usize,
