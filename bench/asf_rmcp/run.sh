@@ -4,7 +4,8 @@
 # octet; the table hangs on the number of rounds, so that no compiler knows an octet of it, and the readers aren't inlined. Each
 # frame is read as a packet and as a message, and the sum of what was read and refused has to be the same.
 # Outside the merge gate, which takes no main.rt outside a crate: the program is main.rattle. It is proved and built in a
-# temporary folder, and kept in out/ as long as no source changes. The least processor time of five runs counts.
+# temporary folder, and kept in out/ as long as no source changes. Of five runs of each, in turn, the least
+# processor time counts.
 # usage: run.sh [--quick]      --quick: a tenth of the frames, in one run each
 set -eu
 rounds=500000
@@ -48,15 +49,14 @@ if [ ! -x "$out/bench_frames" ] || [ "$sources" != "$(cat "$out/sources" 2> /dev
 fi
 gcc -O2 -o "$work/reader" "$here/reader.c"
 
+# in turn, so that what else runs on the machine slows both
 TIMEFORMAT=%U
-least() {
-    local run
-    for ((run = 0; run < times; run++)); do
-        { time "$1" "$rounds" > "$2"; } 2>&1
-    done | sort -n | head -1
-}
-rattle=$(least "$out/bench_frames" "$work/rattle.sum")
-c=$(least "$work/reader" "$work/c.sum")
+for ((run = 0; run < times; run++)); do
+    { time "$out/bench_frames" "$rounds" > "$work/rattle.sum"; } 2>> "$work/rattle.times"
+    { time "$work/reader" "$rounds" > "$work/c.sum"; } 2>> "$work/c.times"
+done
+rattle=$(sort -n "$work/rattle.times" | head -1)
+c=$(sort -n "$work/c.times" | head -1)
 cmp "$work/rattle.sum" "$work/c.sum"
 awk -v n="$((2 * 128 * rounds))" -v r="$rattle" -v c="$c" 'BEGIN {
     printf "asf_rmcp  %.2f million frames a second (%s s)\n", n / r / 1e6, r

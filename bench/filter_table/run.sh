@@ -24,16 +24,15 @@ echo 'bench_filters: anyhow event_record filter_table' >> "$work/crates.txt"
 (cd "$work/crates/bench_filters" && rt run -- usual 1 > "$work/log" 2>&1) || { cat "$work/log"; exit 1; }
 gcc -O2 -o "$work/matcher" "$here/matcher.c"
 
+# in turn, so that what else runs on the machine slows both; the least of five processor times counts
 TIMEFORMAT=%U
-# least CASE OUT COMMAND: the least of five processor times
-least() {
-    for _ in 1 2 3 4 5; do
-        { time "$3" "$1" "$events" > "$2"; } 2>&1
-    done | sort -n | head -1
-}
 for case in usual worst; do
-    rattle=$(least "$case" "$work/rattle.sum" "$work/crates/bench_filters/out/bench_filters")
-    c=$(least "$case" "$work/c.sum" "$work/matcher")
+    for _ in 1 2 3 4 5; do
+        { time "$work/crates/bench_filters/out/bench_filters" "$case" "$events" > "$work/rattle.sum"; } 2>> "$work/$case.rattle"
+        { time "$work/matcher" "$case" "$events" > "$work/c.sum"; } 2>> "$work/$case.c"
+    done
+    rattle=$(sort -n "$work/$case.rattle" | head -1)
+    c=$(sort -n "$work/$case.c" | head -1)
     cmp "$work/rattle.sum" "$work/c.sum"
     awk -v k="$case" -v n="$((events * 16))" -v r="$rattle" -v c="$c" 'BEGIN {
         printf "%s: matches %.1f, C loop %.1f million filters a second (%s s, %s s), ratio %.2f\n", k, n / r / 1e6, n / c / 1e6, r, c, c / r
