@@ -18,7 +18,8 @@ const ROWS: usize = 65_536;
 #[derive(Drop)]
 pub(crate) struct Ledger {
     rows: Vec<Row>,
-    // The place of each row. There may be keys beside these: those of rows that there was room made for and that never came.
+    // The place of each row. The key of a trap that there was room made for and that wasn't entered stays in it too; the row at its
+    // place, where there is one, has another key.
     places: BTreeMap<Key, usize>,
     ghost within: { length rows.items ≤ row_limit },
     ghost indexed: { IsIndexed rows.items places },
