@@ -26,7 +26,7 @@ pub(crate) struct Ledger {
 }
 
 impl Ledger {
-    ghost use Rattle.std.specs.Prelude.{◌≡◌, ◌↔◌, ◌<◌, ◌≤◌, [], length, OnOk, IsErrOf, None, slice_get, option_copied};
+    ghost use Rattle.std.specs.Prelude.{◌≡◌, ◌↔◌, ◌<◌, ◌≤◌, [], length, OnOk, IsErr, IsErrOf, None, slice_get, option_copied};
     ghost use Rattle.trap_console.specs.Rows.{key_of, place_in, rows_and, heard_at, row_limit};
     ghost use Rattle.trap_console.specs.Ledger.{HasRoom, IsReadyFor};
 
@@ -68,6 +68,7 @@ impl Ledger {
         ensures rows { self.new.rows.items ≡ self.old.rows.items }
         ensures ready { OnOk result (place_in self.old.rows.items key.now ≡ None → HasRoom self.new key.now) }
         ensures full { IsErrOf result MachineFault.Full ↔ ((place_in self.old.rows.items key.now ≡ None) × (row_limit ≤ length self.old.rows.items)) }
+        ensures new { IsErr result → place_in self.old.rows.items key.now ≡ None }
     {
         if self.place_of(key).is_some() {
             return Ok(());
