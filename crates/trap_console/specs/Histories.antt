@@ -49,11 +49,15 @@ encode (Taken (Open id count)) = mark_octets (Opened id count)
 encode (Taken Close) = mark_octets Closed
 encode (Outcome told) = mark_octets (Told told)
 
--- the datagram would be a row more than the 65,536 that there may be
+-- the item would be a row more
+abbrev pub AddsRow : List Row → Item → Type 0
+AddsRow rows (Datagram from octets) = IsNew rows (received from octets)
+AddsRow rows (Open id count) = ⊥
+AddsRow rows Close = ⊥
+
+-- it would be a row more than the 65,536 that there may be
 abbrev pub IsOver : List Row → Item → Type 0
-IsOver rows (Datagram from octets) = IsNew rows (received from octets) × (row_limit ≤ length rows)
-IsOver rows (Open id count) = ⊥
-IsOver rows Close = ⊥
+IsOver rows item = AddsRow rows item × (row_limit ≤ length rows)
 
 -- An item comes where the rule of scripts lets it come.
 abbrev pub console_rules : Rules Item

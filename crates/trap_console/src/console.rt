@@ -22,12 +22,12 @@ pub struct Console {
 }
 
 impl Console {
-    ghost use Rattle.std.specs.Prelude.{◌≡◌, ◌↔◌, ◌≤◌, ℕ, [], List, length, IsTrue, OnOk, IsErrOf};
+    ghost use Rattle.std.specs.Prelude.{◌≡◌, ◌↔◌, ◌≤◌, ℕ, [], List, length, IsTrue, OnOk, IsErr, IsErrOf};
     ghost use Rattle.pef_engine.specs.Scripts.{MayCome, script_with, script_of};
     ghost use Rattle.trap_console.specs.Received.{received, due_by};
     ghost use Rattle.trap_console.specs.Rows.{rows_by, heard_by, row_limit};
     ghost use Rattle.trap_console.specs.Heard.{rows_of, heard_after, rows_with, heard_with};
-    ghost use Rattle.trap_console.specs.Histories.{ack_port, due_behind, IsOver};
+    ghost use Rattle.trap_console.specs.Histories.{ack_port, due_behind, AddsRow, IsOver};
     ghost use Rattle.trap_console.specs.Report.{step_in, console_scripts};
     ghost use Rattle.trap_console.specs.View.{ShowsConsole, AllowedBy, IsReady, HasRoomFor, Continues};
 
@@ -86,7 +86,7 @@ impl Console {
         }
     }
 
-    /// Makes the room that the item needs, and changes nothing else.
+    /// Makes the room that the item needs, and changes nothing else. It fails only for a new row: `Full` exactly at row 65,537.
     pub(crate) fn make_ready(&mut self, item: &Item) -> Result<(), MachineFault>
         ensures port { self.new.port ≡ self.old.port }
         ensures rows { self.new.ledger.rows.items ≡ self.old.ledger.rows.items }
@@ -95,6 +95,7 @@ impl Console {
         ensures due { self.new.due ≡ self.old.due }
         ensures ready { OnOk result (IsReady self.new.ledger item.now) }
         ensures full { IsErrOf result MachineFault.Full ↔ IsOver self.old.ledger.rows.items item.now }
+        ensures new { IsErr result → AddsRow self.old.ledger.rows.items item.now }
     {
         match item {
             Item::Datagram { from, octets } => match received(from, octets.as_slice()) {

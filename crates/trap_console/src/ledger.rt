@@ -18,14 +18,15 @@ const ROWS: usize = 65_536;
 #[derive(Drop)]
 pub(crate) struct Ledger {
     rows: Vec<Row>,
-    // The place of each row. There may be keys beside these: those of rows that there was room made for and that never came.
+    // The place of each row. The key of a trap that there was room made for and that wasn't entered stays in it too; the row at its
+    // place, where there is one, has another key.
     places: BTreeMap<Key, usize>,
     ghost within: { length rows.items ≤ row_limit },
     ghost indexed: { IsIndexed rows.items places },
 }
 
 impl Ledger {
-    ghost use Rattle.std.specs.Prelude.{◌≡◌, ◌↔◌, ◌<◌, ◌≤◌, [], length, OnOk, IsErrOf, None, slice_get, option_copied};
+    ghost use Rattle.std.specs.Prelude.{◌≡◌, ◌↔◌, ◌<◌, ◌≤◌, [], length, OnOk, IsErr, IsErrOf, None, slice_get, option_copied};
     ghost use Rattle.trap_console.specs.Rows.{key_of, place_in, rows_and, heard_at, row_limit};
     ghost use Rattle.trap_console.specs.Ledger.{HasRoom, IsReadyFor};
 
@@ -67,6 +68,7 @@ impl Ledger {
         ensures rows { self.new.rows.items ≡ self.old.rows.items }
         ensures ready { OnOk result (place_in self.old.rows.items key.now ≡ None → HasRoom self.new key.now) }
         ensures full { IsErrOf result MachineFault.Full ↔ ((place_in self.old.rows.items key.now ≡ None) × (row_limit ≤ length self.old.rows.items)) }
+        ensures new { IsErr result → place_in self.old.rows.items key.now ≡ None }
     {
         if self.place_of(key).is_some() {
             return Ok(());

@@ -1,11 +1,13 @@
 //! Worked rows: what comes of one item after another, which octets are an entry, and which lines are items.
 ghost use Rattle.std.specs.Prelude.{OnOk};
+ghost use Rattle.board_core.specs.MemoryBoard.{memory_view};
+ghost use Rattle.pef_engine.specs.Engine.{IsLive, HasPlace};
 ghost use Rattle.pef_engine.specs.MachineView.{IsReadyFor, KeepsAllButReady};
 ghost use Rattle.trap_console.specs.View.{view_of};
 
 use super::*;
-use board_core::{Address, MemSink, Octets, SinkFailed, Step, Told};
-use pef_engine::{Entry, Machine, MachineFault, Script, Scripted};
+use board_core::{Address, MemBoard, MemSink, Octets, SinkFailed, Step, Told};
+use pef_engine::{Engine, Entry, Machine, MachineFault, Script, Scripted};
 use report_line::ReportLine;
 use std::test::Fail;
 
@@ -405,4 +407,60 @@ fn a_line_of_a_capture_is_a_datagram(rt: HostRuntime) {
         assert_eq!(rt; found, length, "{text}");
     }
     assert_eq!(rt; Console::word(), b"capture".as_slice());
+}
+
+/// A console's file that has no entries.
+const FRESH: [u8; 7] = [0xA5, 2, 2, 0, 0x6F, 0x02, 0];
+
+/// Takes a datagram where the console allows it, and says whether it was taken.
+fn take(engine: &mut Engine<Console>, board: &mut MemBoard, octets: &[u8]) -> bool
+    requires place { IsLive engine.old → HasPlace (memory_view board.old) engine.old }
+    ensures place { IsLive engine.new → HasPlace (memory_view board.new) engine.new }
+{
+    let mut held = Octets::new();
+    held.extend(octets);
+    let entry = Entry::Item(Item::Datagram {
+        from: SENDER,
+        octets: held,
+    });
+    if !engine.live() || !engine.machine().allows(&entry) {
+        return false;
+    }
+    engine.take(board, &entry).is_ok()
+}
+
+/// Settles what is due, and says what was told of it.
+fn settle(engine: &mut Engine<Console>, board: &mut MemBoard) -> Option<Told>
+    requires place { IsLive engine.old → HasPlace (memory_view board.old) engine.old }
+    ensures place { IsLive engine.new → HasPlace (memory_view board.new) engine.new }
+{
+    if !engine.live() {
+        return None;
+    }
+    engine.settle(board).ok()?
+}
+
+#[test]
+fn a_trap_is_stored_before_it_is_acknowledged(rt: HostRuntime) -> Result<(), Fail> {
+    let alloc = rt.alloc();
+    let mut board = MemBoard::new(alloc, &FRESH, &[], &[1])?;
+    let mut first = Engine::<Console>::open(alloc, &mut board)?;
+    assert!(rt; take(&mut first, &mut board, &TRAP));
+    assert_eq!(rt; board.octets().len(), 7 + 3 + 7 + 108);
+    assert!(rt; board.issued().is_empty());
+    // The acknowledgement that is due isn't lost with the engine.
+    let mut second = Engine::<Console>::open(alloc, &mut board)?;
+    assert!(rt; !take(&mut second, &mut board, &TRAP));
+    assert_eq!(rt; settle(&mut second, &mut board), Some(Told::Done));
+    assert_eq!(rt; settle(&mut second, &mut board), None);
+    // The acknowledgement of the repeat fails, which is its outcome.
+    assert!(rt; take(&mut second, &mut board, &TRAP));
+    assert_eq!(rt; settle(&mut second, &mut board), Some(Told::Failed));
+    assert!(rt; take(&mut second, &mut board, &TRAP[..50]));
+    assert_eq!(rt; settle(&mut second, &mut board), None);
+    let third = Engine::<Console>::open(alloc, &mut board)?;
+    assert_eq!(rt; third.machine().rows().len(), 1);
+    assert!(rt; matches!(third.machine().heard(), Heard::Refused(_)));
+    assert_eq!(rt; board.issued().len(), 2);
+    Ok(())
 }
