@@ -86,7 +86,7 @@ impl Console {
         }
     }
 
-    /// Makes the room that the item needs, and changes nothing else. It fails only for a new row: `Full` exactly at row 65,537.
+    /// Makes the room that the item needs, and changes nothing else. It fails only for a new row: `Full` exactly for a row beyond the 65,536th.
     pub(crate) fn make_ready(&mut self, item: &Item) -> Result<(), MachineFault>
         ensures port { self.new.port ≡ self.old.port }
         ensures rows { self.new.ledger.rows.items ≡ self.old.ledger.rows.items }
