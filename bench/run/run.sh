@@ -35,19 +35,36 @@ make_script() {
     }' > "$1"
 }
 
-# make_state FILE OCTETS SAME: a state file of about so many octets, whose entries open and close a script of no event and then are
-# events that the filter asks no action for, under one ID, or under IDs from 1 to 1,000 again and again
+# make_state FILE OCTETS KIND: a state file of about so many octets, whose entries open and close a script of no event and then are
+# events that the filter asks no action for, under one ID (`one`), or under IDs from 1 to 1,000 again and again (`many`); or of each four
+# entries a command that writes a parameter, one that reads one, such an event, and an event that the filter asks an action for, with its
+# outcome the first time (`mixed`)
 make_state() {
     python3 - "$@" <<'PYTHON'
 import sys
-path, octets, same = sys.argv[1], int(sys.argv[2]), sys.argv[3] == "one"
+path, octets, kind = sys.argv[1], int(sys.argv[2]), sys.argv[3]
 settings = bytes(26) + bytes([162, 0, 162, 0, 162, 0, 1, 63, 0]) + bytes.fromhex("80200010ffff04ff010400000000000000000000")
 def entry(payload):
     return b"\xa5" + len(payload).to_bytes(2, "little") + payload
 parts = [b"\xa5\x01\x37\x00" + settings, entry(b"\x05" + bytes(8)), entry(b"\x06")]
-for i in range((octets - 75) // 20):
-    number = 1 if same else i % 1000 + 1
-    parts.append(entry(b"\x01" + number.to_bytes(2, "little") + bytes.fromhex("0200ca9a3b200004043001531020")))
+def event(number, data):
+    return entry(b"\x01" + number.to_bytes(2, "little") + bytes.fromhex("0200ca9a3b2000040430") + bytes([1, data, 0x10, 0x20]))
+def mixed():
+    for i in range(octets):
+        yield [entry(bytes.fromhex("020412023f"))]
+        yield [entry(bytes.fromhex("020413050000"))]
+        yield [event(i % 1000 + 1, 0x53)]
+        yield [event(2000 + i % 24, 0x52)] + ([entry(b"\x10\x00")] if i < 24 else [])
+if kind == "mixed":
+    size = sum(map(len, parts))
+    for some in mixed():
+        size += sum(map(len, some))
+        if size >= octets:
+            break
+        parts += some
+else:
+    for i in range((octets - 75) // 20):
+        parts.append(event(1 if kind == "one" else i % 1000 + 1, 0x53))
 open(path, "wb").write(b"".join(parts) + b"\x00")
 print(len(parts) - 1)
 PYTHON
@@ -92,7 +109,7 @@ store() {
 store "on disk" "$disk" "$on_disk" "$disk_rounds"
 store "in memory" "$memory" "$in_memory" "$memory_rounds"
 
-# opening NAME OCTETS SAME: each call opens the file, finds its script closed, and stores nothing
+# opening NAME OCTETS KIND: each call opens the file, finds its script closed, and stores nothing
 printf 'script 00000000 0\nend\n' > "$memory/closed"
 opening() {
     local entries took
@@ -105,4 +122,7 @@ opening() {
 for octets in "$length" $((2 * length)); do
     opening "open $((octets / 1024)) KiB, one ID" "$octets" one
     opening "open $((octets / 1024)) KiB, 1,000 IDs" "$octets" many
+done
+for octets in $((4 * length)) $((8 * length)); do
+    opening "open $((octets / 1024)) KiB, mixed" "$octets" mixed
 done
