@@ -9,7 +9,9 @@ pub const SETTINGS: usize = 55;
 
 /// The places of the initial PEF control, action control mask and startup delay among them.
 pub const CONTROL: usize = 32;
+
 pub const ACTIONS: usize = 33;
+
 pub const DELAY: usize = 34;
 /// The place of the filter among them, to their end.
 pub const FILTER: usize = 35;
