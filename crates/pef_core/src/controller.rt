@@ -2,16 +2,16 @@
 
 use crate::events::add_event;
 use crate::item::{Item, step_in};
-use crate::jobs::{first_part, part_behind, step_of};
+use crate::jobs::{first_part, part_behind};
 use crate::note::Note;
 use crate::replying::reply_to;
 use crate::running::Running;
-use board_core::{Octets, Step, Told};
+use board_core::{Octets, Told};
 use event_record::Log;
 use lan_dest::Lan;
 use pef_commands::Request;
 use pef_config::{Config, Initial};
-use pef_engine::{Entry, Script, may_come, script_behind};
+use pef_engine::{Entry, Script, script_behind};
 use pef_match::{Job, job_of};
 use std::alloc::{AllocError, Global};
 
@@ -24,26 +24,25 @@ pub struct Controller {
     /// How many records at the front of the log are processed.
     mark: usize,
     /// The job that runs, of the record behind the mark. While one runs its step is due.
-    running: Option<Running>,
-    script: Option<Script>,
+    pub(crate) running: Option<Running>,
+    pub(crate) script: Option<Script>,
     note: Note,
     reply: Option<Octets>,
 }
 
 impl Controller {
-    ghost use Rattle.std.specs.Prelude.{◌≡◌, ◌↔◌, ◌<◌, ℕ, length, [], ◌∷◌, List, Some, None, IsTrue, IfOk, option_copied};
-    ghost use Rattle.std.specs.Prelude.{option_map, slice_get, IsSome};
+    ghost use Rattle.std.specs.Prelude.{◌≡◌, ◌<◌, ℕ, [], ◌∷◌, List, Some, None, IfOk, IsSome, length, option_copied, option_map, slice_get};
     ghost use Rattle.pef_config.specs.Kept.{tables};
     ghost use Rattle.pef_config.specs.Places.{our_sizes};
     ghost use Rattle.pef_match.specs.Job.{job};
-    ghost use Rattle.pef_engine.specs.Scripts.{MayCome, script_with, script_from, script_of};
+    ghost use Rattle.pef_engine.specs.Scripts.{MayCome, script_with, script_from};
     ghost use Rattle.pef_core.specs.Settings.{initial_of};
     ghost use Rattle.pef_core.specs.Deeds.{item_deed, deed, standing};
-    ghost use Rattle.pef_core.specs.After.{with_deed, with_next_job, values_after, begun};
+    ghost use Rattle.pef_core.specs.After.{with_deed, with_next_job, begun};
     ghost use Rattle.pef_core.specs.Past.{WasTold};
     ghost use Rattle.pef_core.specs.Course.{is_enabled};
     ghost use Rattle.pef_core.specs.Report.{step_in, controller_scripts};
-    ghost use Rattle.pef_core.specs.View.{shown, ShowsController, AllowedBy, due_of};
+    ghost use Rattle.pef_core.specs.View.{shown, ShowsController, AllowedBy};
 
     /// The controller with these initial parameters at the start of its history, with room for a whole log.
     pub(crate) fn new(alloc: Global, initial: &Initial) -> Result<Controller, AllocError>
@@ -61,13 +60,6 @@ impl Controller {
         })
     }
 
-    /// The script that was opened last, and None where none was.
-    pub(crate) fn opened(&self) -> Option<Script>
-        ensures { (Z : List ℕ) (H : List (Entry Item)) → ShowsController self.now Z H → result ≡ script_of controller_scripts H }
-    {
-        self.script
-    }
-
     /// What the last item did to the log; an outcome leaves it as it is.
     pub fn note(&self) -> Note
         ensures { (Z : List ℕ) (H : List (Entry Item)) → ShowsController self.now Z H → result ≡ (standing Z H).note }
@@ -82,39 +74,8 @@ impl Controller {
         self.reply.as_ref()
     }
 
-    /// The step of the job that runs.
-    pub(crate) fn due(&self) -> Option<Step>
-        ensures { result ≡ due_of self.now }
-    {
-        match &self.running {
-            Some(running) => Some(step_of(running)),
-            None => None,
-        }
-    }
-
-    /// Whether the entry may come next.
-    pub(crate) fn accepts(&self, entry: &Entry<Item>) -> bool
-        ensures { IsTrue result ↔ AllowedBy self.now entry.now }
-    {
-        let is_due = self.running.is_some();
-        match entry {
-            Entry::Item(item) => !is_due && may_come(self.script, step_in(item)),
-            Entry::Outcome(_) => is_due,
-        }
-    }
-
-    /// Goes on with an entry that is allowed: first what it does, and then the job that begins.
-    pub(crate) fn go_on(&mut self, entry: &Entry<Item>)
-        requires { AllowedBy self.old entry.now }
-        ensures values { shown self.new ≡ values_after (deed (shown self.old) entry.now) (shown self.old) }
-        ensures script { self.new.script ≡ script_from controller_scripts self.old.script (entry.now ∷ []) }
-    {
-        self.enter(entry);
-        self.begin_next();
-    }
-
-    // What the entry does, but for the job that may begin then.
-    fn enter(&mut self, entry: &Entry<Item>)
+    /// What the entry does, but for the job that may begin then.
+    pub(crate) fn enter(&mut self, entry: &Entry<Item>)
         requires { AllowedBy self.old entry.now }
         ensures values { shown self.new ≡ with_deed (deed (shown self.old) entry.now) (shown self.old) }
         ensures script { self.new.script ≡ script_from controller_scripts self.old.script (entry.now ∷ []) }
@@ -184,8 +145,8 @@ impl Controller {
         }
     }
 
-    // Begins the next job, where one may begin.
-    fn begin_next(&mut self)
+    /// Begins the next job, where one may begin.
+    pub(crate) fn begin_next(&mut self)
         ensures values { shown self.new ≡ with_next_job (shown self.old) }
         ensures script { self.new.script ≡ self.old.script }
     {

@@ -5,10 +5,11 @@ ghost use Rattle.pef_core.specs.Laws.{controller_agrees, same_size, are_entries,
 
 use crate::controller::Controller;
 use crate::entries;
-use crate::item::Item;
+use crate::item::{Item, step_in};
+use crate::jobs::step_of;
 use board_core::{Payload, Step};
 use pef_config::Initial;
-use pef_engine::{Entry, Machine, MachineFault};
+use pef_engine::{Entry, Machine, MachineFault, may_come};
 use pef_journal::FileKind;
 use pef_settings::{ACTIONS, CONTROL, DELAY, FILTER, KIND};
 use std::alloc::{AllocError, Global};
@@ -46,7 +47,11 @@ impl Machine for Controller {
     }
 
     fn allows(&self, entry: &Entry<Item>) -> bool {
-        self.accepts(entry)
+        let is_due = self.running.is_some();
+        match entry {
+            Entry::Item(item) => !is_due && may_come(self.script, step_in(item)),
+            Entry::Outcome(_) => is_due,
+        }
     }
 
     fn prepare(&mut self, _item: &Item) -> Result<(), MachineFault> {
@@ -54,11 +59,15 @@ impl Machine for Controller {
     }
 
     fn apply(&mut self, entry: &Entry<Item>) {
-        self.go_on(entry);
+        self.enter(entry);
+        self.begin_next();
     }
 
     fn next(&self) -> Option<Step> {
-        self.due()
+        match &self.running {
+            Some(running) => Some(step_of(running)),
+            None => None,
+        }
     }
 
     fn encode_entry(entry: &Entry<Item>) -> Payload {

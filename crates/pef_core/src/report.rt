@@ -25,7 +25,7 @@ impl Scripted for Controller {
     }
 
     fn script(&self) -> Option<Script> {
-        self.opened()
+        self.script
     }
 
     fn opening(id: u32, count: u32) -> Item {

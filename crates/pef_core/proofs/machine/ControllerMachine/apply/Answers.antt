@@ -1,7 +1,7 @@
-use Rattle.std.proofs.Common.{None, [], ◌∷◌, sym, ◌∙◌, ap}
+use Rattle.std.proofs.Common.{◌≡◌, None, [], ◌∷◌, sym, ◌∙◌, ap}
 use Rattle.pef_engine.specs.Scripts.{script_from}
 use Rattle.pef_engine.proofs.ScriptOf.{from-append}
-use Rattle.pef_core.specs.After.{values_after}
+use Rattle.pef_core.specs.After.{with_next_job, values_after}
 use Rattle.pef_core.specs.Deeds.{deed}
 use Rattle.pef_core.specs.Report.{controller_scripts}
 use Rattle.pef_core.specs.View.{shown}
@@ -12,10 +12,12 @@ use Rattle.pef_core.proofs.machine.ControllerMachine.apply.Goals as goal
 pub returns : goal.returns
 returns c =
     let entry = c.args.entry.now in
+    let values : shown c.begin_next.new.self ≡ values_after (deed (shown c.args.self.now) entry) (shown c.args.self.now) = c.begin_next.ensures.values ∙ ap with_next_job c.enter.ensures.values in
+    let script = c.begin_next.ensures.script ∙ c.enter.ensures.script in
     record {
       shows = λ Z H lawful shows. record {
-        values_are = c.go_on.ensures.values ∙ ap (λ v. values_after (deed v entry) v) shows.values_are ∙ sym (standing_next Z H entry);
-        script_is = c.go_on.ensures.script ∙ ap (λ s. script_from controller_scripts s (entry ∷ [])) shows.script_is ∙ sym (from-append controller_scripts None H (entry ∷ []));
+        values_are = values ∙ ap (λ v. values_after (deed v entry) v) shows.values_are ∙ sym (standing_next Z H entry);
+        script_is = script ∙ ap (λ s. script_from controller_scripts s (entry ∷ [])) shows.script_is ∙ sym (from-append controller_scripts None H (entry ∷ []));
       };
-      left = λ outcome. leaves_fewer c.args.self.now (shown c.go_on.new.self) entry outcome c.requires.allowed c.go_on.ensures.values;
+      left = λ outcome. leaves_fewer c.args.self.now (shown c.begin_next.new.self) entry outcome c.requires.allowed values;
     }
