@@ -1,13 +1,12 @@
 -- From what `init` does to its call, and which statuses a form has.
-use Rattle.std.proofs.Common.{◌≡◌, ◌≢◌, ◌⊎◌, inl, inr, ⊎_elim, ℕ, ◌≤◌, List, ◌++◌, Option, Some, None, IsTrue, refl, sym, ◌∙◌, ap, subst, arith}
+use Rattle.std.proofs.Common.{◌≡◌, ◌≢◌, ◌⊎◌, inl, inr, ⊎_elim, ℕ, List, Some, None, IsTrue, refl, sym, ◌∙◌, ap, subst, arith}
 use Rattle.board_core.specs.Causes.{Rose}
-use Rattle.board_core.specs.Board.{BoardView}
 use Rattle.pef_journal.specs.Image.{IsFormatted}
 use Rattle.report_line.specs.declared.ending.Ending.{Ending}
 use Rattle.report_line.specs.declared.ending.Ending.TheVariants as ending
 use Rattle.report_line.specs.Finishing.{Finishes}
 use Rattle.script_run.specs.Top.{Outside, EndsWith, IsRunEnd}
-use Rattle.script_run.proofs.EndLemmas.{Ended, ended, status_zero, done_ends, memory_ends}
+use Rattle.script_run.proofs.EndLemmas.{ended, status_zero, done_ends, memory_ends}
 use Rattle.pef_cli.specs.Init.{IsInitEnd, Making, Makes, Inits}
 
 module _ (of : Making) (old new : Outside) (status : ℕ) where

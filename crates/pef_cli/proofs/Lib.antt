@@ -1,3 +1,4 @@
 pub mod Moments
 pub mod Faults
 pub mod Endings
+pub mod Acks

@@ -2,3 +2,4 @@ pub mod Words
 pub mod Init
 pub mod Kinds
 pub mod Top
+pub mod Receiving

@@ -1,7 +1,7 @@
 -- The forms of a command line, and what they name.
 use Rattle.std.specs.Prelude.{ℕ, bytes_eq, codes, if◌then◌else◌, List, [], ◌∷◌, option_map, Option, Some, None}
 use Rattle.pef_cli.specs.declared.form.Form.{Form}
-use Rattle.pef_cli.specs.declared.form.Form.TheVariants.{Init, Run}
+use Rattle.pef_cli.specs.declared.form.Form.TheVariants.{Init, InitConsole, Run, Receive}
 use Rattle.pef_cli.specs.declared.form.Paths.{Paths}
 
 -- behind its own word a form names the state file, and then the other file
@@ -10,9 +10,15 @@ two_files form = record { form = form; state = 1; second = 2; arrivals = 0 }
 
 -- the form that begins with this word
 abbrev pub form_named : List ℕ → Option Form
-form_named word = if bytes_eq word (codes "init") then Some Init else (if bytes_eq word (codes "run") then Some Run else None)
+form_named word =
+    if bytes_eq word (codes "init") then Some Init
+    else (if bytes_eq word (codes "init-console") then Some InitConsole
+    else (if bytes_eq word (codes "run") then Some Run
+    else (if bytes_eq word (codes "receive") then Some Receive
+    else None)))
 
--- What the words behind the program's name ask for. The forms are `init STATE SETTINGS` and `run STATE SCRIPT`.
+-- What the words behind the program's name ask for. The forms are `init STATE SETTINGS`, `init-console STATE SETTINGS`,
+-- `run STATE SCRIPT` and `receive STATE CAPTURE`.
 abbrev pub paths_of : List (List ℕ) → Option Paths
 paths_of [] = None
 paths_of (word ∷ []) = None

@@ -4,8 +4,19 @@
 pub enum Form {
     /// `init STATE SETTINGS` formats a controller's state file.
     Init,
+    /// `init-console STATE SETTINGS` formats a console's state file.
+    InitConsole,
     /// `run STATE SCRIPT` takes the items of a script, behind those taken where it was begun before.
     Run,
+    /// `receive STATE CAPTURE` takes the datagrams of a capture, behind those taken where it was begun before.
+    Receive,
+}
+
+impl Form {
+    /// Whether it formats the state file, and creates it where it is missing.
+    pub fn formats(self) -> bool {
+        matches!(self, Form::Init | Form::InitConsole)
+    }
 }
 
 /// The places of a form's words, from 0, and a number of arrivals. What a form hasn't is 0.
@@ -22,4 +33,9 @@ pub struct Paths {
 }
 
 /// The forms as a person types them, behind the program's name.
-pub const FORMS: [&str; 2] = ["init STATE SETTINGS", "run STATE SCRIPT"];
+pub const FORMS: [&str; 4] = [
+    "init STATE SETTINGS",
+    "init-console STATE SETTINGS",
+    "run STATE SCRIPT",
+    "receive STATE CAPTURE",
+];

@@ -9,6 +9,7 @@ mod kinds;
 mod no_start;
 mod opening;
 mod program;
+mod receiving;
 mod remark;
 mod starting;
 mod unformatted;

@@ -2,10 +2,14 @@
 use crate::asked::Asked;
 use crate::form::Form;
 use crate::unformatted::{Unformatted, why_unformatted};
+use board_core::Board;
+use pef_core::Controller;
 use read_ahead::ReadAhead;
 use real_devices::{Failure, FileBoard, FileSource, StdSink};
+use std::alloc::Global;
 use std::io::Write;
 use thiserror::Error;
+use trap_console::Console;
 
 /// One line on a call, which says more than its status.
 #[derive(Clone, Copy, Debug, Error)]
@@ -13,15 +17,21 @@ pub enum Remark<'a> {
     /// This file isn't a valid state file.
     #[error("{name}: {why}")]
     Unformatted { name: &'a str, why: Unformatted },
-    /// The text in this file isn't a settings text.
+    /// The text in this file isn't a settings text of a controller.
     #[error("{0}: expected the one line filter = \"...\", with 40 hexadecimal digits between the quotes")]
-    Settings(&'a str),
+    Filter(&'a str),
+    /// The text in this file isn't a settings text of a console.
+    #[error("{0}: expected the one line ack_port = N, with N from 0 to 65535, or an empty file")]
+    Port(&'a str),
     /// A call on what has this name failed.
     #[error("{name}: {failure}")]
     Failed { name: &'a str, failure: Failure },
     /// This file has no room for the next entry.
     #[error("{0}: there is no room for the next entry; a state file has at most 16,777,216 octets")]
     Full(&'a str),
+    /// This file has no room for the next entry, or the ledger none for the next row.
+    #[error("{0}: there is no room for the next entry; a console's file has at most 16,777,216 octets and 65,536 rows")]
+    FullConsole(&'a str),
 }
 
 /// Says on standard error what is to be said behind a call: why it ended with its status, and why a step was told as failed.
@@ -34,19 +44,51 @@ pub fn tell<W: Write + Drop>(
     out: &StdSink<W>,
 ) {
     let remark = match status {
-        3 => why_unformatted(rt.alloc(), board).map(|why| Remark::Unformatted {
-            name: asked.state,
-            why,
-        }),
-        4 if asked.form == Form::Init => Some(Remark::Settings(asked.second)),
+        3 => unformatted(rt.alloc(), asked, board),
+        4 => settings(asked),
         6 => failed(asked.second, source.failure()),
         7 => failed(asked.state, board.board().disk_failure()),
         8 => failed("standard output", out.failure()),
-        9 => Some(Remark::Full(asked.state)),
+        9 => Some(full(asked)),
         _ => None,
     };
     say(rt, remark);
     say(rt, failed(asked.state, board.board().issue_failure()));
+}
+
+// Where the file stops making sense to the machine of this form.
+fn unformatted<'a, B: Board>(
+    alloc: Global,
+    asked: &Asked<'a>,
+    board: &mut B,
+) -> Option<Remark<'a>> {
+    let why = match asked.form {
+        Form::Init | Form::Run => why_unformatted::<Controller, B>(alloc, board, "controller"),
+        Form::InitConsole | Form::Receive => {
+            why_unformatted::<Console, B>(alloc, board, "console")
+        }
+    };
+    why.map(|why| Remark::Unformatted {
+        name: asked.state,
+        why,
+    })
+}
+
+// Which settings text was expected, where the form reads one.
+fn settings<'a>(asked: &Asked<'a>) -> Option<Remark<'a>> {
+    match asked.form {
+        Form::Init => Some(Remark::Filter(asked.second)),
+        Form::InitConsole => Some(Remark::Port(asked.second)),
+        Form::Run | Form::Receive => None,
+    }
+}
+
+// How large a file may be.
+fn full<'a>(asked: &Asked<'a>) -> Remark<'a> {
+    match asked.form {
+        Form::Receive => Remark::FullConsole(asked.state),
+        _ => Remark::Full(asked.state),
+    }
 }
 
 fn failed(name: &str, failure: Option<Failure>) -> Option<Remark<'_>> {

@@ -26,7 +26,9 @@ fn form_of(word: &str) -> Option<Form>
 {
     match word {
         "init" => Some(Form::Init),
+        "init-console" => Some(Form::InitConsole),
         "run" => Some(Form::Run),
+        "receive" => Some(Form::Receive),
         _ => None,
     }
 }
