@@ -2,3 +2,4 @@ pub mod Moments
 pub mod Faults
 pub mod Endings
 pub mod Acks
+pub mod Rows

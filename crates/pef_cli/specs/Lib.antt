@@ -3,3 +3,5 @@ pub mod Init
 pub mod Kinds
 pub mod Top
 pub mod Receiving
+pub mod Listing
+pub mod Reading

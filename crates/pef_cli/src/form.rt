@@ -10,6 +10,8 @@ pub enum Form {
     Run,
     /// `receive STATE CAPTURE` takes the datagrams of a capture, behind those taken where it was begun before.
     Receive,
+    /// `list STATE` shows the rows of a console's ledger.
+    List,
 }
 
 impl Form {
@@ -26,16 +28,17 @@ pub struct Paths {
     pub form: Form,
     /// The place of the state file's path.
     pub state: usize,
-    /// The place of the other path.
+    /// The place of the other path: 0 where the form has none.
     pub second: usize,
     /// The number of arrivals to wait for: 0, since no form of today waits for any.
     pub arrivals: u64,
 }
 
 /// The forms as a person types them, behind the program's name.
-pub const FORMS: [&str; 4] = [
+pub const FORMS: [&str; 5] = [
     "init STATE SETTINGS",
     "init-console STATE SETTINGS",
     "run STATE SCRIPT",
     "receive STATE CAPTURE",
+    "list STATE",
 ];

@@ -1,6 +1,7 @@
 //! Opening the files that a form's words name.
 use crate::asked::Asked;
 use crate::no_start::NoStart;
+use crate::state_reader::StateReader;
 use real_devices::{FileBoard, FileSource, HeldFile, Plant};
 
 /// Opens the other file, then the state file with its plant. A form that formats creates the state file where it is missing. Nothing is
@@ -24,6 +25,11 @@ pub fn open_files<'r, 'a>(
     }
     let plant = open_plant(rt, state, &file)?;
     Ok((FileBoard::new(rt, file, plant), source))
+}
+
+/// Opens the state file alone, to be read, under no lock.
+pub fn open_to_read<'a>(rt: &HostRuntime, asked: &Asked<'a>) -> Result<StateReader, NoStart<'a>> {
+    StateReader::open(rt, asked.state).map_err(|error| NoStart::of(asked.state, error))
 }
 
 // The state file isn't the settings: it would be made of its own octets.

@@ -1,13 +1,14 @@
 //! One call of the program on its words.
 ghost use Rattle.std.specs.Prelude.{◌≡◌, ◌⊎◌, map, string_bytes};
-ghost use Rattle.pef_cli.specs.declared.form.Form.TheVariants.{Init, InitConsole, Run, Receive};
+ghost use Rattle.pef_cli.specs.declared.form.Form.TheVariants.{Init, InitConsole, Run, Receive, List};
 ghost use Rattle.pef_cli.specs.Init.{Inits, making};
 ghost use Rattle.pef_cli.specs.Kinds.{kinds};
 ghost use Rattle.pef_settings.specs.Settings.{controller, settings_of};
 ghost use Rattle.console_settings.specs.Settings as console;
 ghost use Rattle.report_line.specs.declared.ending.Ending.TheVariants.{Usage};
 ghost use Rattle.report_line.specs.Finishing.{Finishes};
-ghost use Rattle.pef_cli.specs.Top.{IsNoForm, IsOfForm};
+ghost use Rattle.pef_cli.specs.Top.{IsNoForm, IsOfForm, IsOfLoneForm};
+ghost use Rattle.pef_cli.specs.Listing.{Lists, sourceless};
 ghost use Rattle.pef_cli.specs.Receiving.{console_kind, AcksAreKept};
 ghost use Rattle.pef_core.specs.Histories.{controller_rules};
 ghost use Rattle.pef_core.specs.Report.{controller_scripts};
@@ -18,6 +19,7 @@ ghost use Rattle.script_run.specs.Top.{RunCall, outside};
 use crate::form::Form;
 use crate::initializing::init;
 use crate::kinds::KINDS;
+use crate::listing::list;
 use crate::receiving::receive;
 use crate::words::paths;
 use board_core::{Board, Sink, Source};
@@ -53,6 +55,8 @@ pub fn top<B: Board, S: Source, K: Sink>(
         (outside (B.view board.old) (S.left source.old) (S.faults source.old) (K.written out.old) (K.faults out.old))
         (outside (B.view board.new) (S.left source.new) (S.faults source.new) (K.written out.new) (K.faults out.new)) result }
     ensures acks { IsOfForm Receive (map string_bytes words.now) → AcksAreKept (S.left source.old) (B.view board.old) (B.view board.new) }
+    ensures list { IsOfLoneForm List (map string_bytes words.now) → Lists (sourceless (B.view board.old) (K.written out.old) (K.faults out.old))
+        (sourceless (B.view board.new) (K.written out.new) (K.faults out.new)) result × (source.new ≡ source.old) }
 {
     let Some(paths) = paths(words) else {
         return finish(out, Ending::Usage);
@@ -62,5 +66,6 @@ pub fn top<B: Board, S: Source, K: Sink>(
         Form::InitConsole => init::<ConsoleSettings, B, S, K>(alloc, &KINDS, board, source, out),
         Form::Run => run::<Controller, B, S, K>(alloc, board, source, out),
         Form::Receive => receive(alloc, board, source, out),
+        Form::List => list(alloc, board, out),
     }
 }

@@ -1,6 +1,7 @@
 //! What a person reads on standard error behind a call.
 use crate::asked::Asked;
 use crate::form::Form;
+use crate::state_reader::StateReader;
 use crate::unformatted::{Unformatted, why_unformatted};
 use board_core::Board;
 use pef_core::Controller;
@@ -34,6 +35,14 @@ pub enum Remark<'a> {
     FullConsole(&'a str),
 }
 
+// The first failure of each device of a call.
+#[derive(Drop)]
+struct Failures {
+    input: Option<Failure>,
+    disk: Option<Failure>,
+    output: Option<Failure>,
+}
+
 /// Says on standard error what is to be said behind a call: why it ended with its status, and why a step was told as failed.
 pub fn tell<W: Write + Drop>(
     rt: &HostRuntime,
@@ -43,17 +52,48 @@ pub fn tell<W: Write + Drop>(
     source: &FileSource,
     out: &StdSink<W>,
 ) {
-    let remark = match status {
-        3 => unformatted(rt.alloc(), asked, board),
+    let failures = Failures {
+        input: source.failure(),
+        disk: board.board().disk_failure(),
+        output: out.failure(),
+    };
+    say(rt, remark_on(rt.alloc(), asked, status, board, &failures));
+    say(rt, failed(asked.state, board.board().issue_failure()));
+}
+
+/// Says why a call of `list` ended with its status.
+pub fn tell_of_list<W: Write + Drop>(
+    rt: &HostRuntime,
+    asked: &Asked<'_>,
+    status: u8,
+    board: &mut ReadAhead<StateReader>,
+    out: &StdSink<W>,
+) {
+    let failures = Failures {
+        input: None,
+        disk: board.board().failure(),
+        output: out.failure(),
+    };
+    say(rt, remark_on(rt.alloc(), asked, status, board, &failures));
+}
+
+// Why a call ended with this status.
+fn remark_on<'a, B: Board>(
+    alloc: Global,
+    asked: &Asked<'a>,
+    status: u8,
+    board: &mut B,
+    failures: &Failures,
+) -> Option<Remark<'a>> {
+    match status {
+        3 => unformatted(alloc, asked, board),
         4 => settings(asked),
-        6 => failed(asked.second, source.failure()),
-        7 => failed(asked.state, board.board().disk_failure()),
-        8 => failed("standard output", out.failure()),
+        6 => failed(asked.second, failures.input),
+        7 => failed(asked.state, failures.disk),
+        8 => failed("standard output", failures.output),
         9 => Some(full(asked)),
         _ => None,
-    };
-    say(rt, remark);
-    say(rt, failed(asked.state, board.board().issue_failure()));
+    }
 }
 
 // Where the file stops making sense to the machine of this form.
@@ -64,7 +104,7 @@ fn unformatted<'a, B: Board>(
 ) -> Option<Remark<'a>> {
     let why = match asked.form {
         Form::Init | Form::Run => why_unformatted::<Controller, B>(alloc, board, "controller"),
-        Form::InitConsole | Form::Receive => {
+        Form::InitConsole | Form::Receive | Form::List => {
             why_unformatted::<Console, B>(alloc, board, "console")
         }
     };
@@ -79,14 +119,14 @@ fn settings<'a>(asked: &Asked<'a>) -> Option<Remark<'a>> {
     match asked.form {
         Form::Init => Some(Remark::Filter(asked.second)),
         Form::InitConsole => Some(Remark::Port(asked.second)),
-        Form::Run | Form::Receive => None,
+        Form::Run | Form::Receive | Form::List => None,
     }
 }
 
 // How large a file may be.
 fn full<'a>(asked: &Asked<'a>) -> Remark<'a> {
     match asked.form {
-        Form::Receive => Remark::FullConsole(asked.state),
+        Form::Receive | Form::List => Remark::FullConsole(asked.state),
         _ => Remark::Full(asked.state),
     }
 }

@@ -8,6 +8,7 @@ mod crash_console;
 mod fault;
 mod full;
 mod init;
+mod list;
 mod memory;
 mod run;
 

@@ -170,7 +170,7 @@ fn other_words_are_no_form(rt: HostRuntime) {
         second: 2,
         arrivals: 0,
     };
-    let rows: [(&[&str], Option<Paths>); 14] = [
+    let rows: [(&[&str], Option<Paths>); 18] = [
         (
             &["init", "state", "settings.toml"],
             Some(places(Form::Init)),
@@ -190,6 +190,16 @@ fn other_words_are_no_form(rt: HostRuntime) {
         (&["init", "state", "settings.toml", "more"], None),
         (&["INIT", "state", "settings.toml"], None),
         (&["initialise", "state", "settings.toml"], None),
+        (
+            &["list", "state"],
+            Some(Paths {
+                second: 0,
+                ..places(Form::List)
+            }),
+        ),
+        (&["list"], None),
+        (&["list", "state", "more"], None),
+        (&["init-console", "state"], None),
         (&["init-consoles", "state", "settings"], None),
         (&["receive", "state"], None),
         (&["--help"], None),
