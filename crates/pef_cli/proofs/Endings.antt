@@ -1,14 +1,14 @@
 -- From what `init` does to its call, and which statuses a form has.
-use Rattle.std.proofs.Common.{◌≡◌, ◌≢◌, ◌⊎◌, inl, inr, ⊎_elim, ℕ, ◌≤◌, List, ◌++◌, Option, Some, None, IsTrue, refl, sym, ◌∙◌, ap, subst, arith}
+use Rattle.std.proofs.Common.{◌≡◌, ◌≢◌, ◌⊎◌, inl, inr, ⊎_elim, ℕ, List, Some, None, IsTrue, refl, sym, ◌∙◌, ap, subst, arith}
 use Rattle.board_core.specs.Causes.{Rose}
-use Rattle.board_core.specs.Board.{BoardView}
 use Rattle.pef_journal.specs.Image.{IsFormatted}
 use Rattle.report_line.specs.declared.ending.Ending.{Ending}
 use Rattle.report_line.specs.declared.ending.Ending.TheVariants as ending
 use Rattle.report_line.specs.Finishing.{Finishes}
 use Rattle.script_run.specs.Top.{Outside, EndsWith, IsRunEnd}
-use Rattle.script_run.proofs.EndLemmas.{Ended, ended, status_zero, done_ends, memory_ends}
+use Rattle.script_run.proofs.EndLemmas.{ended, status_zero, done_ends, memory_ends}
 use Rattle.pef_cli.specs.Init.{IsInitEnd, Making, Makes, Inits}
+use Rattle.pef_cli.specs.Listing.{IsListEnd}
 
 module _ (of : Making) (old new : Outside) (status : ℕ) where
   -- the text gives no settings
@@ -68,7 +68,7 @@ module _ (of : Making) (old new : Outside) (status : ℕ) where
         writes_later = e.later;
       }
 
--- neither form answers the status of a wrong command line
+-- no form answers the status of a wrong command line
 two : (end : Ending) (part : List ℕ) (before after status : ℕ) → (end ≡ ending.Usage → ⊥) → EndsWith end part before after status → status ≢ 2
 two (ending.Done count) part before after status not e is = ⊎_elim (λ x. omega (arith, x.1, is)) (λ x. omega (arith, x.2, is)) e
 two ending.Usage part before after status not e is = not refl
@@ -88,3 +88,6 @@ run_not_two end part before after status is e = two end part before after status
 
 pub init_not_two : (end : Ending) (part : List ℕ) (before after status : ℕ) → IsInitEnd end → EndsWith end part before after status → status ≢ 2
 init_not_two end part before after status is e = two end part before after status (λ u. subst IsInitEnd u is) e
+
+pub list_not_two : (end : Ending) (part : List ℕ) (before after status : ℕ) → IsListEnd end → EndsWith end part before after status → status ≢ 2
+list_not_two end part before after status is e = two end part before after status (λ u. ⊎_elim (λ x. x) (λ x. x) (subst IsListEnd u is)) e

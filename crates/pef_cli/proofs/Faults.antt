@@ -1,6 +1,5 @@
 -- Which fault ends a call of `init` how.
-use Rattle.std.proofs.Common.{◌≡◌, ◌≢◌, ℕ, refl}
-use Rattle.report_line.specs.declared.ending.Ending.{Ending}
+use Rattle.std.proofs.Common.{◌≡◌, ◌≢◌, refl}
 use Rattle.report_line.specs.declared.ending.Ending.TheVariants as ending
 use Rattle.pef_cli.specs.declared.init_fault.InitFault.{InitFault}
 use Rattle.pef_cli.specs.declared.init_fault.InitFault.TheVariants.{Disk, Formatted, Input, Settings, Memory}

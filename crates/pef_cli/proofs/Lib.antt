@@ -1,3 +1,5 @@
 pub mod Moments
 pub mod Faults
 pub mod Endings
+pub mod Acks
+pub mod Rows

@@ -1,7 +1,7 @@
 -- What a call of the program answers to its words.
 use Rattle.std.specs.Prelude.{◌≡◌, ℕ, List, Some, None}
 use Rattle.pef_cli.specs.declared.form.Form.{Form}
-use Rattle.pef_cli.specs.Words.{paths_of, two_files}
+use Rattle.pef_cli.specs.Words.{paths_of, two_files, one_file}
 
 -- unknown command or wrong arguments
 abbrev pub IsNoForm : List (List ℕ) → Type 0
@@ -10,3 +10,7 @@ IsNoForm words = paths_of words ≡ None
 -- a call of this form, which has two files
 abbrev pub IsOfForm : Form → List (List ℕ) → Type 0
 IsOfForm form words = paths_of words ≡ Some (two_files form)
+
+-- a call of this form, which has the state file alone
+abbrev pub IsOfLoneForm : Form → List (List ℕ) → Type 0
+IsOfLoneForm form words = paths_of words ≡ Some (one_file form)

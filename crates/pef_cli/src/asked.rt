@@ -1,13 +1,13 @@
 //! What a form's words name.
 use crate::form::Form;
 
-/// A form and the names of its two files.
+/// A form and the names of its files.
 #[derive(Clone, Copy, Debug)]
 pub struct Asked<'a> {
     /// The form.
     pub form: Form,
     /// The state file's path.
     pub state: &'a str,
-    /// The other file's path: of the settings, or of the script.
+    /// The other file's path: of the settings, of the script or of the capture. A form without one has its own word here.
     pub second: &'a str,
 }

@@ -4,8 +4,21 @@
 pub enum Form {
     /// `init STATE SETTINGS` formats a controller's state file.
     Init,
+    /// `init-console STATE SETTINGS` formats a console's state file.
+    InitConsole,
     /// `run STATE SCRIPT` takes the items of a script, behind those taken where it was begun before.
     Run,
+    /// `receive STATE CAPTURE` takes the datagrams of a capture, behind those taken where it was begun before.
+    Receive,
+    /// `list STATE` shows the rows of a console's ledger.
+    List,
+}
+
+impl Form {
+    /// Whether it formats the state file, and creates it where it is missing.
+    pub fn formats(self) -> bool {
+        matches!(self, Form::Init | Form::InitConsole)
+    }
 }
 
 /// The places of a form's words, from 0, and a number of arrivals. What a form hasn't is 0.
@@ -15,11 +28,17 @@ pub struct Paths {
     pub form: Form,
     /// The place of the state file's path.
     pub state: usize,
-    /// The place of the other path.
+    /// The place of the other path: 0 where the form has none.
     pub second: usize,
     /// The number of arrivals to wait for: 0, since no form of today waits for any.
     pub arrivals: u64,
 }
 
 /// The forms as a person types them, behind the program's name.
-pub const FORMS: [&str; 2] = ["init STATE SETTINGS", "run STATE SCRIPT"];
+pub const FORMS: [&str; 5] = [
+    "init STATE SETTINGS",
+    "init-console STATE SETTINGS",
+    "run STATE SCRIPT",
+    "receive STATE CAPTURE",
+    "list STATE",
+];

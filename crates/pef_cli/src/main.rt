@@ -6,11 +6,14 @@ mod form;
 mod init_fault;
 mod initializing;
 mod kinds;
+mod listing;
 mod no_start;
 mod opening;
 mod program;
+mod receiving;
 mod remark;
 mod starting;
+mod state_reader;
 mod unformatted;
 mod words;
 

@@ -1,11 +1,11 @@
 //! Opening the files that a form's words name.
 use crate::asked::Asked;
-use crate::form::Form;
 use crate::no_start::NoStart;
+use crate::state_reader::StateReader;
 use real_devices::{FileBoard, FileSource, HeldFile, Plant};
 
-/// Opens the other file, then the state file with its plant. `init` creates the state file where it is missing. Nothing is read or
-/// written.
+/// Opens the other file, then the state file with its plant. A form that formats creates the state file where it is missing. Nothing is
+/// read or written.
 pub fn open_files<'r, 'a>(
     rt: &'r HostRuntime,
     asked: &Asked<'a>,
@@ -13,16 +13,23 @@ pub fn open_files<'r, 'a>(
     let (state, second) = (asked.state, asked.second);
     // this one first, so that no state file is made where it is missing
     let source = FileSource::open(rt, second).map_err(|error| NoStart::of(second, error))?;
-    let opened = match asked.form {
-        Form::Init => HeldFile::create(rt, state),
-        Form::Run => HeldFile::open(rt, state),
+    let formats = asked.form.formats();
+    let opened = if formats {
+        HeldFile::create(rt, state)
+    } else {
+        HeldFile::open(rt, state)
     };
     let file = opened.map_err(|fault| NoStart::of_state(state, fault))?;
-    if asked.form == Form::Init {
+    if formats {
         check_settings(asked, &file, &source)?;
     }
     let plant = open_plant(rt, state, &file)?;
     Ok((FileBoard::new(rt, file, plant), source))
+}
+
+/// Opens the state file alone, to be read, under no lock.
+pub fn open_to_read<'a>(rt: &HostRuntime, asked: &Asked<'a>) -> Result<StateReader, NoStart<'a>> {
+    StateReader::open(rt, asked.state).map_err(|error| NoStart::of(asked.state, error))
 }
 
 // The state file isn't the settings: it would be made of its own octets.

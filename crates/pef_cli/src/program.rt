@@ -1,12 +1,15 @@
 //! One call of the program on its words.
 ghost use Rattle.std.specs.Prelude.{◌≡◌, ◌⊎◌, map, string_bytes};
-ghost use Rattle.pef_cli.specs.declared.form.Form.TheVariants.{Init, Run};
+ghost use Rattle.pef_cli.specs.declared.form.Form.TheVariants.{Init, InitConsole, Run, Receive, List};
 ghost use Rattle.pef_cli.specs.Init.{Inits, making};
 ghost use Rattle.pef_cli.specs.Kinds.{kinds};
 ghost use Rattle.pef_settings.specs.Settings.{controller, settings_of};
+ghost use Rattle.console_settings.specs.Settings as console;
 ghost use Rattle.report_line.specs.declared.ending.Ending.TheVariants.{Usage};
 ghost use Rattle.report_line.specs.Finishing.{Finishes};
-ghost use Rattle.pef_cli.specs.Top.{IsNoForm, IsOfForm};
+ghost use Rattle.pef_cli.specs.Top.{IsNoForm, IsOfForm, IsOfLoneForm};
+ghost use Rattle.pef_cli.specs.Listing.{Lists, sourceless};
+ghost use Rattle.pef_cli.specs.Receiving.{console_kind, AcksAreKept};
 ghost use Rattle.pef_core.specs.Histories.{controller_rules};
 ghost use Rattle.pef_core.specs.Report.{controller_scripts};
 ghost use Rattle.pef_core.specs.View.{view_of};
@@ -16,8 +19,11 @@ ghost use Rattle.script_run.specs.Top.{RunCall, outside};
 use crate::form::Form;
 use crate::initializing::init;
 use crate::kinds::KINDS;
+use crate::listing::list;
+use crate::receiving::receive;
 use crate::words::paths;
 use board_core::{Board, Sink, Source};
+use console_settings::ConsoleSettings;
 use pef_core::Controller;
 use pef_settings::ControllerSettings;
 use report_line::{Ending, finish};
@@ -39,15 +45,27 @@ pub fn top<B: Board, S: Source, K: Sink>(
     ensures init { IsOfForm Init (map string_bytes words.now) → Inits (making kinds controller settings_of)
         (outside (B.view board.old) (S.left source.old) (S.faults source.old) (K.written out.old) (K.faults out.old))
         (outside (B.view board.new) (S.left source.new) (S.faults source.new) (K.written out.new) (K.faults out.new)) result }
+    ensures init_console { IsOfForm InitConsole (map string_bytes words.now) → Inits (making kinds console.console console.settings_of)
+        (outside (B.view board.old) (S.left source.old) (S.faults source.old) (K.written out.old) (K.faults out.old))
+        (outside (B.view board.new) (S.left source.new) (S.faults source.new) (K.written out.new) (K.faults out.new)) result }
     ensures run { IsOfForm Run (map string_bytes words.now) → RunCall (kind controller_rules view_of controller_scripts)
         (outside (B.view board.old) (S.left source.old) (S.faults source.old) (K.written out.old) (K.faults out.old))
         (outside (B.view board.new) (S.left source.new) (S.faults source.new) (K.written out.new) (K.faults out.new)) result }
+    ensures receive { IsOfForm Receive (map string_bytes words.now) → RunCall console_kind
+        (outside (B.view board.old) (S.left source.old) (S.faults source.old) (K.written out.old) (K.faults out.old))
+        (outside (B.view board.new) (S.left source.new) (S.faults source.new) (K.written out.new) (K.faults out.new)) result }
+    ensures acks { IsOfForm Receive (map string_bytes words.now) → AcksAreKept (S.left source.old) (B.view board.old) (B.view board.new) }
+    ensures list { IsOfLoneForm List (map string_bytes words.now) → Lists (sourceless (B.view board.old) (K.written out.old) (K.faults out.old))
+        (sourceless (B.view board.new) (K.written out.new) (K.faults out.new)) result × (source.new ≡ source.old) }
 {
     let Some(paths) = paths(words) else {
         return finish(out, Ending::Usage);
     };
     match paths.form {
         Form::Init => init::<ControllerSettings, B, S, K>(alloc, &KINDS, board, source, out),
+        Form::InitConsole => init::<ConsoleSettings, B, S, K>(alloc, &KINDS, board, source, out),
         Form::Run => run::<Controller, B, S, K>(alloc, board, source, out),
+        Form::Receive => receive(alloc, board, source, out),
+        Form::List => list(alloc, board, out),
     }
 }

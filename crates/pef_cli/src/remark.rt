@@ -1,11 +1,16 @@
 //! What a person reads on standard error behind a call.
 use crate::asked::Asked;
 use crate::form::Form;
+use crate::state_reader::StateReader;
 use crate::unformatted::{Unformatted, why_unformatted};
+use board_core::Board;
+use pef_core::Controller;
 use read_ahead::ReadAhead;
 use real_devices::{Failure, FileBoard, FileSource, StdSink};
+use std::alloc::Global;
 use std::io::Write;
 use thiserror::Error;
+use trap_console::Console;
 
 /// One line on a call, which says more than its status.
 #[derive(Clone, Copy, Debug, Error)]
@@ -13,15 +18,29 @@ pub enum Remark<'a> {
     /// This file isn't a valid state file.
     #[error("{name}: {why}")]
     Unformatted { name: &'a str, why: Unformatted },
-    /// The text in this file isn't a settings text.
+    /// The text in this file isn't a settings text of a controller.
     #[error("{0}: expected the one line filter = \"...\", with 40 hexadecimal digits between the quotes")]
-    Settings(&'a str),
+    Filter(&'a str),
+    /// The text in this file isn't a settings text of a console.
+    #[error("{0}: expected the one line ack_port = N, with N from 0 to 65535, or an empty file")]
+    Port(&'a str),
     /// A call on what has this name failed.
     #[error("{name}: {failure}")]
     Failed { name: &'a str, failure: Failure },
     /// This file has no room for the next entry.
     #[error("{0}: there is no room for the next entry; a state file has at most 16,777,216 octets")]
     Full(&'a str),
+    /// This file has no room for the next entry, or the ledger none for the next row.
+    #[error("{0}: there is no room for the next entry; a console's file has at most 16,777,216 octets and 65,536 rows")]
+    FullConsole(&'a str),
+}
+
+// The first failure of each device of a call.
+#[derive(Drop)]
+struct Failures {
+    input: Option<Failure>,
+    disk: Option<Failure>,
+    output: Option<Failure>,
 }
 
 /// Says on standard error what is to be said behind a call: why it ended with its status, and why a step was told as failed.
@@ -33,20 +52,83 @@ pub fn tell<W: Write + Drop>(
     source: &FileSource,
     out: &StdSink<W>,
 ) {
-    let remark = match status {
-        3 => why_unformatted(rt.alloc(), board).map(|why| Remark::Unformatted {
-            name: asked.state,
-            why,
-        }),
-        4 if asked.form == Form::Init => Some(Remark::Settings(asked.second)),
-        6 => failed(asked.second, source.failure()),
-        7 => failed(asked.state, board.board().disk_failure()),
-        8 => failed("standard output", out.failure()),
-        9 => Some(Remark::Full(asked.state)),
-        _ => None,
+    let failures = Failures {
+        input: source.failure(),
+        disk: board.board().disk_failure(),
+        output: out.failure(),
     };
-    say(rt, remark);
+    say(rt, remark_on(rt.alloc(), asked, status, board, &failures));
     say(rt, failed(asked.state, board.board().issue_failure()));
+}
+
+/// Says why a call of `list` ended with its status.
+pub fn tell_of_list<W: Write + Drop>(
+    rt: &HostRuntime,
+    asked: &Asked<'_>,
+    status: u8,
+    board: &mut ReadAhead<StateReader>,
+    out: &StdSink<W>,
+) {
+    let failures = Failures {
+        input: None,
+        disk: board.board().failure(),
+        output: out.failure(),
+    };
+    say(rt, remark_on(rt.alloc(), asked, status, board, &failures));
+}
+
+// Why a call ended with this status.
+fn remark_on<'a, B: Board>(
+    alloc: Global,
+    asked: &Asked<'a>,
+    status: u8,
+    board: &mut B,
+    failures: &Failures,
+) -> Option<Remark<'a>> {
+    match status {
+        3 => unformatted(alloc, asked, board),
+        4 => settings(asked),
+        6 => failed(asked.second, failures.input),
+        7 => failed(asked.state, failures.disk),
+        8 => failed("standard output", failures.output),
+        9 => Some(full(asked)),
+        _ => None,
+    }
+}
+
+// Where the file stops making sense to the machine of this form.
+fn unformatted<'a, B: Board>(
+    alloc: Global,
+    asked: &Asked<'a>,
+    board: &mut B,
+) -> Option<Remark<'a>> {
+    let why = match asked.form {
+        Form::Init | Form::Run => why_unformatted::<Controller, B>(alloc, board, "controller"),
+        Form::InitConsole | Form::Receive | Form::List => {
+            why_unformatted::<Console, B>(alloc, board, "console")
+        }
+    };
+    why.map(|why| Remark::Unformatted {
+        name: asked.state,
+        why,
+    })
+}
+
+// Which settings text was expected, where the form reads one.
+fn settings<'a>(asked: &Asked<'a>) -> Option<Remark<'a>> {
+    match asked.form {
+        Form::Init => Some(Remark::Filter(asked.second)),
+        Form::InitConsole => Some(Remark::Port(asked.second)),
+        Form::Run | Form::Receive | Form::List => None,
+    }
+}
+
+// How large a file may be.
+fn full<'a>(asked: &Asked<'a>) -> Remark<'a> {
+    match asked.form {
+        Form::Receive | Form::List => Remark::FullConsole(asked.state),
+        _ => Remark::Full(asked.state),
+    }
 }
 
 fn failed(name: &str, failure: Option<Failure>) -> Option<Remark<'_>> {

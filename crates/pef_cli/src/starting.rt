@@ -1,9 +1,10 @@
 //! From the words that the program was called with to its call.
 use crate::asked::Asked;
+use crate::form::Form;
 use crate::no_start::NoStart;
-use crate::opening::open_files;
+use crate::opening::{open_files, open_to_read};
 use crate::program::top;
-use crate::remark::tell;
+use crate::remark::{tell, tell_of_list};
 use crate::words::paths;
 use board_core::{MemBoard, MemSource};
 use read_ahead::ReadAhead;
@@ -76,6 +77,33 @@ fn call_without_files<'a>(rt: &HostRuntime, words: &[String]) -> Result<u8, NoSt
 
 // A call on the files that the words name.
 fn call<'a>(rt: &HostRuntime, words: &[String], asked: &Asked<'a>) -> Result<u8, NoStart<'a>> {
+    match asked.form {
+        Form::List => call_to_read(rt, words, asked),
+        _ => call_on_files(rt, words, asked),
+    }
+}
+
+// A call that reads a state file.
+fn call_to_read<'a>(
+    rt: &HostRuntime,
+    words: &[String],
+    asked: &Asked<'a>,
+) -> Result<u8, NoStart<'a>> {
+    let alloc = rt.alloc();
+    let mut board = ReadAhead::new(alloc, open_to_read(rt, asked)?)?;
+    let mut source = MemSource::new(alloc, &[], &[])?;
+    let mut out = StdSink::new(io::writer(rt));
+    let status = top(alloc, words, &mut board, &mut source, &mut out);
+    tell_of_list(rt, asked, status, &mut board, &out);
+    Ok(status)
+}
+
+// A call that works on a state file with another file.
+fn call_on_files<'a>(
+    rt: &HostRuntime,
+    words: &[String],
+    asked: &Asked<'a>,
+) -> Result<u8, NoStart<'a>> {
     let alloc = rt.alloc();
     let (board, mut source) = open_files(rt, asked)?;
     // a journal is read entry by entry, and each entry is short

@@ -1,10 +1,14 @@
 // Calls of the program on objects in memory: what the files of each form are, what it leaves and says.
 mod again;
+mod captures;
 mod commands;
+mod console;
 mod crash;
+mod crash_console;
 mod fault;
 mod full;
 mod init;
+mod list;
 mod memory;
 mod run;
 

@@ -1,18 +1,16 @@
-//! Where a file stops making sense as a controller's state file.
+//! Where a file stops making sense as the state file of a machine.
 use board_core::{Board, Payload};
-use pef_core::Controller;
-use pef_engine::{Engine, EngineFault};
-use pef_journal::{Journal, JournalFault};
-use pef_settings::{KIND, SETTINGS};
+use pef_engine::{Engine, EngineFault, Machine};
+use pef_journal::{Journal, JournalFault, MAX_SETTINGS};
 use std::alloc::Global;
 use thiserror::Error;
 
-/// Why a file isn't a controller's state file. Places are in octets from 0 on.
+/// Why a file isn't the state file of a machine. Places are in octets from 0 on.
 #[derive(Clone, Copy, Debug, PartialEq, Eq, Error)]
 pub enum Unformatted {
     /// It has no header of one.
-    #[error("not formatted as a controller's state file, from octet 0 on")]
-    Header,
+    #[error("not formatted as a {machine}'s state file, from octet 0 on")]
+    Header { machine: &'static str },
     /// No whole entry stands here.
     #[error("broken at octet {at}: no whole entry stands there")]
     Broken { at: u64 },
@@ -21,20 +19,25 @@ pub enum Unformatted {
     Misplaced { at: u64 },
 }
 
-/// Looks for the place again. None where the file could not be read, or there was no memory. Writes nothing.
-pub fn why_unformatted<B: Board>(alloc: Global, board: &mut B) -> Option<Unformatted> {
-    match Engine::<Controller>::open(alloc, board) {
+/// Looks for the place again, as the machine of this name reads the file. None where the file could not be read, or there was no
+/// memory. Writes nothing.
+pub fn why_unformatted<M: Machine, B: Board>(
+    alloc: Global,
+    board: &mut B,
+    machine: &'static str,
+) -> Option<Unformatted> {
+    match Engine::<M>::open(alloc, board) {
         Ok(_) => None,
-        Err(EngineFault::NotFormatted) => Some(Unformatted::Header),
-        Err(EngineFault::Corrupt { at }) => why_corrupt(board, at),
+        Err(EngineFault::NotFormatted) => Some(Unformatted::Header { machine }),
+        Err(EngineFault::Corrupt { at }) => why_corrupt::<M, B>(board, at),
         Err(_) => None,
     }
 }
 
 // Reads the entries before this place, and looks whether a whole one stands there.
-fn why_corrupt<B: Board>(board: &mut B, at: u64) -> Option<Unformatted> {
-    let mut settings = [0; SETTINGS];
-    let mut journal = Journal::open(board, KIND, &mut settings).ok()?;
+fn why_corrupt<M: Machine, B: Board>(board: &mut B, at: u64) -> Option<Unformatted> {
+    let mut settings = [0; MAX_SETTINGS];
+    let mut journal = Journal::open(board, M::kind(), &mut settings[..M::kind().settings]).ok()?;
     let mut entry = Payload::new();
     for _ in 0..at {
         if journal.place() >= at {

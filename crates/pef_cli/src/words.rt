@@ -1,6 +1,6 @@
 //! The words of a command line.
 ghost use Rattle.std.specs.Prelude.{◌≡◌, ◌<◌, map, length, string_bytes, IfSome};
-ghost use Rattle.pef_cli.specs.Words.{paths_of, form_named};
+ghost use Rattle.pef_cli.specs.Words.{paths_of, form_named, lone_form_named};
 
 use crate::form::{Form, Paths};
 
@@ -9,16 +9,30 @@ pub fn paths(words: &[String]) -> Option<Paths>
     ensures form { result ≡ paths_of (map string_bytes words.now) }
     ensures within { IfSome result (λ paths. (paths.state < length words.now) × (paths.second < length words.now)) }
 {
-    let [word, _, _] = words else {
-        return None;
-    };
-    let form = form_of(word.as_str())?;
-    Some(Paths {
-        form,
-        state: 1,
-        second: 2,
-        arrivals: 0,
-    })
+    match words {
+        [word, _] => Some(Paths {
+            form: lone_form_of(word.as_str())?,
+            state: 1,
+            second: 0,
+            arrivals: 0,
+        }),
+        [word, _, _] => Some(Paths {
+            form: form_of(word.as_str())?,
+            state: 1,
+            second: 2,
+            arrivals: 0,
+        }),
+        _ => None,
+    }
+}
+
+fn lone_form_of(word: &str) -> Option<Form>
+    ensures { result ≡ lone_form_named word.now }
+{
+    match word {
+        "list" => Some(Form::List),
+        _ => None,
+    }
 }
 
 fn form_of(word: &str) -> Option<Form>
@@ -26,7 +40,9 @@ fn form_of(word: &str) -> Option<Form>
 {
     match word {
         "init" => Some(Form::Init),
+        "init-console" => Some(Form::InitConsole),
         "run" => Some(Form::Run),
+        "receive" => Some(Form::Receive),
         _ => None,
     }
 }

@@ -170,18 +170,38 @@ fn other_words_are_no_form(rt: HostRuntime) {
         second: 2,
         arrivals: 0,
     };
-    let rows: [(&[&str], Option<Paths>); 10] = [
+    let rows: [(&[&str], Option<Paths>); 18] = [
         (
             &["init", "state", "settings.toml"],
             Some(places(Form::Init)),
         ),
+        (
+            &["init-console", "state", "settings"],
+            Some(places(Form::InitConsole)),
+        ),
         (&["run", "state", "script"], Some(places(Form::Run))),
+        (
+            &["receive", "state", "capture"],
+            Some(places(Form::Receive)),
+        ),
         (&[], None),
         (&["init"], None),
         (&["init", "state"], None),
         (&["init", "state", "settings.toml", "more"], None),
         (&["INIT", "state", "settings.toml"], None),
         (&["initialise", "state", "settings.toml"], None),
+        (
+            &["list", "state"],
+            Some(Paths {
+                second: 0,
+                ..places(Form::List)
+            }),
+        ),
+        (&["list"], None),
+        (&["list", "state", "more"], None),
+        (&["init-console", "state"], None),
+        (&["init-consoles", "state", "settings"], None),
+        (&["receive", "state"], None),
         (&["--help"], None),
         (&["live", "state", "127.0.0.1:623", "1"], None),
     ];

@@ -1,0 +1,98 @@
+//! A state file that is read and nothing else.
+ghost use Rattle.std.specs.Prelude.{◌≡◌, Ok, IfOk};
+ghost use Rattle.board_core.specs.Causes.{HasCause, IsCount};
+
+use board_core::{Board, DiskFailed, Step, Told};
+use real_devices::{Call, Failure};
+use std::fs::File;
+use std::io::ErrorKind;
+use std::os::unix::fs::FileExt;
+use std::rt::Files;
+use std::{fs, io};
+
+/// A state file that is open to be read, under no lock, so that another call may be at work on it. Writes and steps fail. It tells
+/// nothing of its content.
+#[derive(Drop)]
+pub struct StateReader {
+    file: File,
+    faults: u64,
+    refused: u64,
+    failure: Option<Failure>,
+    ghost faults_counted: { IsCount faults },
+    ghost refused_counted: { IsCount refused },
+}
+
+impl StateReader {
+    /// Opens the file at `path`.
+    pub fn open<R: Files<File = File>>(rt: &R, path: &str) -> io::Result<StateReader> {
+        Ok(StateReader {
+            file: fs::open(rt, path)?,
+            faults: 0,
+            refused: 0,
+            failure: None,
+        })
+    }
+
+    /// The first call of the file that failed.
+    pub fn failure(&self) -> Option<Failure> {
+        self.failure
+    }
+
+    // Hands an answer of a call on, and counts a failure.
+    fn counted<T: Drop>(&mut self, answer: io::Result<T>, call: Call) -> Result<T, DiskFailed>
+        ensures value { IfOk answer (λ value. result ≡ Ok value) }
+        ensures cause { HasCause self.old.faults self.new.faults result }
+        ensures refused { self.new.refused ≡ self.old.refused }
+    {
+        match answer {
+            Ok(value) => Ok(value),
+            Err(error) => {
+                self.faults = self.faults.saturating_add(1);
+                if self.failure.is_none() {
+                    self.failure = Some(Failure { call, error });
+                }
+                Err(DiskFailed)
+            }
+        }
+    }
+}
+
+impl Board for StateReader {
+    ghost use Rattle.pef_cli.specs.Reading.{reader_view, reader_sound};
+
+    ghost view = { reader_view };
+
+    ghost sound = { reader_sound };
+
+    #[tactic(auto, using(real_devices::proofs::Silence::silent_read))]
+    fn len(&mut self) -> Result<u64, DiskFailed> {
+        let length = self.file.metadata().map(|data| data.len());
+        self.counted(length, Call::Length)
+    }
+
+    #[tactic(auto, using(real_devices::proofs::Silence::silent_read))]
+    fn read_at(&mut self, place: u64, into: &mut [u8]) -> Result<(), DiskFailed> {
+        let count = into.len();
+        let answer = self.file.read_exact_at(into, place);
+        self.counted(answer, Call::ReadAt { place, count })
+    }
+
+    #[tactic(auto, using(real_devices::proofs::Silence::silent_write))]
+    fn write_at(&mut self, place: u64, from: &[u8]) -> Result<(), DiskFailed> {
+        let count = from.len();
+        let refused = Err(io::Error::from(ErrorKind::PermissionDenied));
+        self.counted(refused, Call::WriteAt { place, count })
+    }
+
+    #[tactic(auto, using(real_devices::proofs::Silence::silent_sync))]
+    fn sync(&mut self) -> Result<(), DiskFailed> {
+        let answer = self.file.sync_all();
+        self.counted(answer, Call::Sync)
+    }
+
+    #[tactic(auto, using(real_devices::proofs::Silence::silent_issue))]
+    fn issue(&mut self, _step: &Step) -> Told {
+        self.refused = self.refused.saturating_add(1);
+        Told::Failed
+    }
+}
