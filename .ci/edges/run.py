@@ -7,6 +7,7 @@ import tempfile
 
 sys.dont_write_bytecode = True
 
+import console
 import descriptors
 import faults
 import locks
@@ -29,7 +30,7 @@ def main(program):
             return Call(program, f"{folder}/{count}")
 
         wrong = 0
-        for part in (descriptors, locks, plant, same_file, faults, reasons):
+        for part in (descriptors, locks, plant, same_file, faults, reasons, console):
             try:
                 part.check(make)
             except Wrong as fault:
@@ -37,7 +38,7 @@ def main(program):
                 print(f"{part.__name__}: {fault}", file=sys.stderr)
     if wrong:
         sys.exit(f"{wrong} of the edges aren't as they must be")
-    print("pef_cli: closed descriptors, locks, the plant's file and faults of the system are right")
+    print("pef_cli: closed descriptors, locks, the plant's file, faults of the system and a console are right")
 
 
 main(str(pathlib.Path(sys.argv[1]).resolve()))

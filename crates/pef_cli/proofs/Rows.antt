@@ -1,5 +1,5 @@
 -- From opening a console's file and writing its rows to a call of `list`.
-use Rattle.std.proofs.Common.{◌≡◌, ◌≢◌, ◌⊎◌, inl, inr, ⊎_elim, ℕ, ◌≤◌, List, [], ◌∷◌, ◌++◌, length, append_assoc, Option, Some, None, Result, Ok, Err, IsTrue, refl, sym, ◌∙◌, ap, subst, arith}
+use Rattle.std.proofs.Common.{◌≡◌, ◌≢◌, ◌⊎◌, inl, inr, ⊎_elim, ℕ, ◌≤◌, List, [], ◌∷◌, ◌++◌, length, append_assoc, Option, Some, Ok, Err, refl, sym, ◌∙◌, ap, subst, arith}
 use Rattle.std.proofs.lemmas.List.{append-nil}
 use Rattle.board_core.specs.Causes.{Rose}
 use Rattle.board_core.specs.Board.{BoardView}
@@ -12,9 +12,9 @@ use Rattle.pef_engine.specs.Rules.{WasOver}
 use Rattle.report_line.specs.declared.ending.Ending.{Ending}
 use Rattle.report_line.specs.declared.ending.Ending.TheVariants.{Done, Usage, Unformatted, Line, Settings, Unfinished, Input, Disk, Output, Full, Memory, Formatted}
 use Rattle.report_line.specs.Ending.{last_line}
-use Rattle.report_line.specs.Finishing.{Finishes, IsPrefixOf}
+use Rattle.report_line.specs.Finishing.{Finishes}
 use Rattle.script_run.specs.Performing.{open_ending}
-use Rattle.script_run.specs.Top.{Outside, EndsWith, IsUntouched, MayRefuse}
+use Rattle.script_run.specs.Top.{Outside, EndsWith, MayRefuse}
 use Rattle.script_run.proofs.EndLemmas.{ended, status_zero, done_ends, memory_ends}
 use Rattle.trap_console.specs.declared.console.Console.{Console}
 use Rattle.trap_console.specs.declared.item.Item.{Item}

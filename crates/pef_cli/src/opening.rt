@@ -27,9 +27,9 @@ pub fn open_files<'r, 'a>(
     Ok((FileBoard::new(rt, file, plant), source))
 }
 
-/// Opens the state file alone, to be read, under no lock.
+/// Opens the state file alone, to be read. Nothing is read yet.
 pub fn open_to_read<'a>(rt: &HostRuntime, asked: &Asked<'a>) -> Result<StateReader, NoStart<'a>> {
-    StateReader::open(rt, asked.state).map_err(|error| NoStart::of(asked.state, error))
+    StateReader::open(rt, asked.state).map_err(|fault| NoStart::of_state(asked.state, fault))
 }
 
 // The state file isn't the settings: it would be made of its own octets.

@@ -3,14 +3,14 @@ ghost use Rattle.std.specs.Prelude.{◌≡◌, Ok, IfOk};
 ghost use Rattle.board_core.specs.Causes.{HasCause, IsCount};
 
 use board_core::{Board, DiskFailed, Step, Told};
-use real_devices::{Call, Failure};
-use std::fs::File;
+use real_devices::{Call, Failure, HoldFault};
+use std::fs::{self, File, TryLockError};
+use std::io;
 use std::io::ErrorKind;
 use std::os::unix::fs::FileExt;
 use std::rt::Files;
-use std::{fs, io};
 
-/// A state file that is open to be read, under no lock, so that another call may be at work on it. Writes and steps fail. It tells
+/// A state file that is open to be read, under a shared advisory lock, which goes with the process. Writes and steps fail. It tells
 /// nothing of its content.
 #[derive(Drop)]
 pub struct StateReader {
@@ -23,14 +23,19 @@ pub struct StateReader {
 }
 
 impl StateReader {
-    /// Opens the file at `path`.
-    pub fn open<R: Files<File = File>>(rt: &R, path: &str) -> io::Result<StateReader> {
-        Ok(StateReader {
-            file: fs::open(rt, path)?,
-            faults: 0,
-            refused: 0,
-            failure: None,
-        })
+    /// Opens and locks the file at `path`. Nothing is read.
+    pub fn open<R: Files<File = File>>(rt: &R, path: &str) -> Result<StateReader, HoldFault> {
+        let file = fs::open(rt, path).map_err(HoldFault::System)?;
+        match file.try_lock_shared() {
+            Ok(()) => Ok(StateReader {
+                file,
+                faults: 0,
+                refused: 0,
+                failure: None,
+            }),
+            Err(TryLockError::WouldBlock) => Err(HoldFault::Held),
+            Err(TryLockError::Error(error)) => Err(HoldFault::System(error)),
+        }
     }
 
     /// The first call of the file that failed.

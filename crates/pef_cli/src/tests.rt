@@ -7,6 +7,7 @@ mod crash;
 mod crash_console;
 mod fault;
 mod full;
+mod full_console;
 mod init;
 mod list;
 mod memory;
