@@ -31,7 +31,7 @@ fn full_ledger(alloc: Global) -> Result<Vec<u8>, AllocError> {
     Ok(file)
 }
 
-// A capture with the trap, which is row 2, and one with another timestamp, which would be row 65,537.
+// A capture with the trap, which is the second row, and one with another timestamp, which would be a row beyond the 65,536th.
 fn capture(alloc: Global) -> Result<String, AllocError> {
     let mut text = String::from_str(alloc, "capture 00000002 2\n")?;
     for octets in [TRAP, changed(TIMESTAMP, 0x81)] {
