@@ -1,5 +1,4 @@
-// The forms `receive` and `list` on a ledger that has all of its 65,536 rows. `rt test` runs it in a few seconds; the checks of
-// `rt try --test` make it too slow for the time that a test has there.
+// The forms `receive` and `list` on a ledger that has all of its 65,536 rows.
 use super::captures::{SEQUENCE, TRAP, changed, datagram_entry};
 use super::{CLOSED, DONE, words_in};
 use crate::program::top;
