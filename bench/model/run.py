@@ -4,12 +4,15 @@
 It builds nothing: it takes crates/pef_cli/out/pef_cli, which ./demo at the top proves and builds. The model below is written from the
 standard (IPMI 2.0, chapters 17, 23, 30 and 32) and docs/COMMANDS.md, bit by bit, and knows nothing of the program's code. Each round makes
 a state file, runs a few scripts on it, and compares the report of each run and the plant's file with those of the model. A script is
-sometimes called in two halves: the first call gets a text that breaks off behind some lines.
+sometimes called in two halves: the first call gets a text that breaks off behind some lines. Sometimes it is run on a copy of the files
+too, by calls that are killed (SIGKILL) at random moments until one ends: the state file is the same then, octet for octet, and so is the
+plant's file, but for at most one repeat for each kill, right behind its twin.
 
 usage: run.py [--quick] [ROUNDS] [SEED]      400 rounds, 25 in the quick mode, and a seed of the clock, where they aren't named
 """
 import pathlib
 import random
+import shutil
 import subprocess
 import sys
 import tempfile
@@ -61,7 +64,7 @@ class Controller:
             for number in range(5):
                 self.lan[channel, 18, number] = bytes(3)
                 self.lan[channel, 19, number] = bytes(12)
-        self.log, self.done, self.plant = [], 0, []
+        self.log, self.done, self.plant, self.kills = [], 0, [], 0
 
     def acts_of(self, event):
         """The actions of a record: one act by priority, and the OEM action."""
@@ -293,6 +296,26 @@ def run(state, script):
     return done.returncode, done.stdout.decode()
 
 
+def run_with_kills(some, state, script):
+    """Runs the script until a call ends by itself; answers how many were killed before."""
+    kills = 0
+    while True:
+        process = subprocess.Popen([program, "run", state, script], stdout=subprocess.DEVNULL)
+        try:
+            if process.wait(some.random() * 0.0015) != 0:
+                sys.exit(f"status {process.returncode} behind {kills} kills")
+            return kills
+        except subprocess.TimeoutExpired:
+            process.kill()
+            process.wait()
+            kills += 1
+
+
+def once(lines):
+    """The lines without those that are the same as the one before."""
+    return [line for place, line in enumerate(lines) if place == 0 or line != lines[place - 1]]
+
+
 def wrong(seed, number, what, script, wanted, got):
     print(f"seed {seed}, round {number}: {what}")
     for a, b in zip(wanted.splitlines() + [""], got.splitlines() + [""]):
@@ -329,6 +352,12 @@ def play(folder, some, seed, number):
                 wrong(seed, number, f"status {status}, first half", script.read_text(), wanted, got)
             said, items = [], items[cut:]
         script.write_text("\n".join(head + lines + ["end"]) + "\n")
+        copy, copied_plant = folder / "copy", folder / "copy.plant"
+        kills = None
+        if some.random() < 0.5:
+            shutil.copyfile(state, copy)
+            shutil.copyfile(folder / "state.plant", copied_plant)
+            kills = run_with_kills(some, copy, script)
         for item in items:
             said += model.take(item)
         taken = len(items) + (2 if cut is None else 1)
@@ -336,10 +365,15 @@ def play(folder, some, seed, number):
         status, got = run(state, script)
         if (status, got) != (0, wanted):
             wrong(seed, number, f"status {status}", script.read_text(), wanted, got)
+        if kills is not None:
+            lines = copied_plant.read_text().splitlines()
+            if copy.read_bytes() != state.read_bytes() or once(lines) != model.plant or len(lines) - len(model.plant) > kills:
+                wrong(seed, number, f"behind {kills} kills", script.read_text(), "\n".join(model.plant), "\n".join(lines))
+            model.kills += kills
         plant = "".join(act + "\n" for act in model.plant)
         if (folder / "state.plant").read_text() != plant:
             wrong(seed, number, "the plant's file", script.read_text(), plant, (folder / "state.plant").read_text())
-    return len(model.plant)
+    return len(model.plant), model.kills
 
 
 def main():
@@ -351,11 +385,12 @@ def main():
     some = random.Random(seed)
     if not program.exists():
         sys.exit(f"{program} is missing: ./demo at the top proves and builds it")
-    acts = 0
+    acts = kills = 0
     with tempfile.TemporaryDirectory(dir="/dev/shm") as folder:
         for number in range(rounds):
-            acts += play(pathlib.Path(folder), some, seed, number)
-    print(f"{rounds} rounds, {acts} actions, seed {seed}: each run said and did what the model does")
+            some_acts, some_kills = play(pathlib.Path(folder), some, seed, number)
+            acts, kills = acts + some_acts, kills + some_kills
+    print(f"{rounds} rounds, {acts} actions, {kills} kills, seed {seed}: each run said and did what the model does")
 
 
 main()
