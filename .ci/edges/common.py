@@ -7,9 +7,11 @@ import signal
 import subprocess
 
 FILTER = "80200010ffff04ff010400000000000000000000"
-SETTINGS = f'filter = "{FILTER}"\n'
-# what a settings text leaves open: system GUID, agent address, manufacturer and system ID, ports, PEF control, actions, delay
-DEFAULTS = bytes(26) + bytes([162, 0, 162, 0, 162, 0, 1, 63, 0])
+GUID = "00112233445566778899aabbccddeeff"
+SETTINGS = f'guid = "{GUID}"\nagent = "10.0.0.2"\nfilter = "{FILTER}"\n'
+# what stands before the filter: GUID, agent address, and of the other keys the defaults: manufacturer and system ID, ports, PEF
+# control, actions, delay
+DEFAULTS = bytes.fromhex(GUID) + bytes([10, 0, 0, 2]) + bytes(6) + bytes([162, 0, 162, 0, 162, 0, 1, 63, 0])
 MADE = bytes([0xA5, 1, 55, 0]) + DEFAULTS + bytes.fromhex(FILTER) + b"\x00"
 ANOTHER_CALL = "another call of the program is at work on it"
 

@@ -7,7 +7,7 @@ import socket
 import subprocess
 import time
 
-from common import ANOTHER_CALL, CLOSED, MADE, entry, equal, opened
+from common import ANOTHER_CALL, CLOSED, MADE, SETTINGS, entry, equal, opened
 
 TRAP = bytes.fromhex(
     "306a02010004067075626c6963a45d06092b06010401986f010140040a0000020201060203040102430100303f303d060a2b06010401986f010101042f"
@@ -94,13 +94,15 @@ def refused(make):
     """What is said where a file, a text or a word is wrong."""
     one = make()
     one.write("settings", "ack_port = 65536\n")
-    port = "settings: expected the one line ack_port = N, with N from 0 to 65535, or an empty file\n"
-    one.check((4, "settings text\n", port), "init-console", "state", "settings")
+    expected = "settings: expected a TOML document with no other key than ack_port, a whole number from 0 to 65535\n"
+    one.check((4, "settings ack_port\n", expected), "init-console", "state", "settings")
+    one.write("settings", SETTINGS)
+    one.check((4, "settings unknown\n", expected), "init-console", "state", "settings")
     one.write("settings", "")
     one.check((0, "ok 0\n", ""), "init-console", "state", "settings")
     equal(one.read("state"), header(623) + b"\x00", "a console's file with the default port")
     one.check((11, "formatted\n", ""), "init-console", "state", "settings")
-    one.write("settings", 'filter = "80200010ffff04ff010400000000000000000000"\n')
+    one.write("settings", SETTINGS)
     one.check((11, "formatted\n", ""), "init", "state", "settings")
     one.check((3, "unformatted\n", "state: not formatted as a controller's state file, from octet 0 on\n"), "run", "state", "script")
     one.check((4, "line 1\n", ""), "receive", "state", "script")

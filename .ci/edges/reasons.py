@@ -1,5 +1,5 @@
 """What is said of files and texts that make no sense, and of a file that is full."""
-from common import CLOSED, MADE, entry, equal, event, opened, state
+from common import CLOSED, FILTER, MADE, SETTINGS, entry, equal, event, opened, state
 
 
 def check(make):
@@ -18,11 +18,20 @@ def check(make):
         one.write("state", content)
         one.check((3, "unformatted\n", f"state: {reason}\n"), "run", "state", "script")
         equal(one.read("state"), content, "a state file that makes no sense")
-    one.write("settings", "filter = 1\n")
     one.write("state", b"")
-    expected = 'settings: expected the one line filter = "...", with 40 hexadecimal digits between the quotes\n'
-    one.check((4, "settings text\n", expected), "init", "state", "settings")
-    equal(one.read("state"), b"", "the state file of settings that are refused")
+    keys = "manufacturer, system, pet_port, oem1_port, oem2_port, control, actions, delay and filter"
+    expected = f"settings: expected a TOML document with guid and agent, and no other keys than {keys}\n"
+    for content, word in (
+        (f'filter = "{FILTER}"\n', "guid"),
+        (SETTINGS.replace("agent", "agents"), "agent"),
+        (SETTINGS + "delay = 256\nx = 1\n", "delay"),
+        (SETTINGS + "x = 1\n", "unknown"),
+        (SETTINGS + "x\n", "text"),
+        (SETTINGS + "\n" * 65_537, "long"),
+    ):
+        one.write("settings", content)
+        one.check((4, f"settings {word}\n", expected), "init", "state", "settings")
+        equal(one.read("state"), b"", "the state file of settings that are refused")
     # events under one ID are logged once, and this one asks for no action
     quiet = entry(b"\x01" + event(1)[:13] + b"\x53" + event(1)[14:])
     room = 16_777_216 - len(state(opened(0), CLOSED))

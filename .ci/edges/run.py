@@ -7,6 +7,7 @@ import tempfile
 
 sys.dont_write_bytecode = True
 
+import alerts
 import console
 import descriptors
 import faults
@@ -30,7 +31,7 @@ def main(program):
             return Call(program, f"{folder}/{count}")
 
         wrong = 0
-        for part in (descriptors, locks, plant, same_file, faults, reasons, console):
+        for part in (descriptors, locks, plant, same_file, faults, reasons, console, alerts):
             try:
                 part.check(make)
             except Wrong as fault:
@@ -38,7 +39,7 @@ def main(program):
                 print(f"{part.__name__}: {fault}", file=sys.stderr)
     if wrong:
         sys.exit(f"{wrong} of the edges aren't as they must be")
-    print("pef_cli: closed descriptors, locks, the plant's file, faults of the system and a console are right")
+    print("pef_cli: closed descriptors, locks, the plant's file, faults of the system, a console and alerts are right")
 
 
 main(str(pathlib.Path(sys.argv[1]).resolve()))

@@ -26,8 +26,9 @@ import time
 
 EVENTS = 200
 FILTER = bytes.fromhex("80200010ffff04ff010400000000000000000000")
+GUID = "00112233445566778899aabbccddeeff"
 # system GUID, agent address, manufacturer ID, system ID, three ports, PEF control, actions, startup delay
-DEFAULTS = bytes(26) + bytes([162, 0, 162, 0, 162, 0, 1, 63, 0])
+DEFAULTS = bytes.fromhex(GUID) + bytes([10, 0, 0, 2]) + bytes(6) + bytes([162, 0, 162, 0, 162, 0, 1, 63, 0])
 SETTINGS = DEFAULTS + FILTER
 OPEN = 0xA5
 
@@ -218,7 +219,7 @@ def begin(folder, name):
     """A new folder with a state file and the script."""
     work = pathlib.Path(folder) / name
     work.mkdir()
-    (work / "settings").write_text(f'filter = "{FILTER.hex()}"\n')
+    (work / "settings").write_text(f'guid = "{GUID}"\nagent = "10.0.0.2"\nfilter = "{FILTER.hex()}"\n')
     events = "".join(f"event {record(number).hex()}\n" for number in range(1, EVENTS + 1))
     (work / "script").write_text(f"script 00000001 {EVENTS}\n{events}end\n")
     subprocess.run([program, "init", "state", "settings"], cwd=work, check=True, stdout=subprocess.DEVNULL)

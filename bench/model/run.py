@@ -1,12 +1,14 @@
 #!/usr/bin/env python3
-"""Compares the proved program with a slow model of a controller, on random scripts of events and commands.
+"""Compares the proved program with a slow model of a controller, on random scripts of events, commands and ticks.
 
 It builds nothing: it takes crates/pef_cli/out/pef_cli, which ./demo at the top proves and builds. The model below is written from the
-standard (IPMI 2.0, chapters 17, 23, 30 and 32) and docs/COMMANDS.md, bit by bit, and knows nothing of the program's code. Each round makes
-a state file, runs a few scripts on it, and compares the report of each run and the plant's file with those of the model. A script is
-sometimes called in two halves: the first call gets a text that breaks off behind some lines. Sometimes it is run on a copy of the files
-too, by calls that are killed (SIGKILL) at random moments until one ends: the state file is the same then, octet for octet, and so is the
-plant's file, but for at most one repeat for each kill, right behind its twin.
+standard (IPMI 2.0, chapters 17, 23, 30 and 32; PET 1.0; RFC 1157) and docs/COMMANDS.md, bit by bit, and knows nothing of the program's
+code. Alerts go to loopback alone, where nobody need receive them; one to port 0 fails. Each round makes
+a state file from random settings, after some that are refused, and compares the refusal and the file's octets with the model's. Then it
+runs a few scripts on it, and compares the report of each run and the plant's file with those of the model. A script is sometimes called
+in two halves: the first call gets a text that breaks off behind some lines. Sometimes it is run on a copy of the files too, by calls that
+are killed (SIGKILL) at random moments until one ends: the state file is the same then, octet for octet, and so is the plant's file, but
+for at most one repeat for each kill, right behind its twin.
 
 usage: run.py [--quick] [ROUNDS] [SEED]      400 rounds, 25 in the quick mode, and a seed of the clock, where they aren't named
 """
@@ -48,12 +50,42 @@ def matches(entry, event):
     )
 
 
+def ber(tag, octets):
+    """An element with its length in the shortest form (RFC 1157)."""
+    size = bytes([len(octets)]) if len(octets) < 128 else bytes([0x81, len(octets)])
+    return bytes([tag]) + size + octets
+
+
+def number(tag, value):
+    """A number in the fewest octets of which the first has bit 7 clear."""
+    return ber(tag, value.to_bytes(value.bit_length() // 8 + 1, "big"))
+
+
+def walk(stops):
+    """IPMI 2.0, section 17.11: yields the place of each entry of a set that is tried, and is sent how it ended."""
+    wanted, succeeded = (lambda stop: True), False
+    for place, (policy, channel, kind) in enumerate(stops):
+        if not wanted((policy, channel, kind)):
+            continue
+        if policy == 0 or not succeeded:
+            succeeded = yield place
+            wanted = lambda stop: True
+        elif policy == 2:
+            return
+        elif policy == 3:
+            wanted = lambda stop, channel=channel: stop[1] != channel
+        elif policy == 4:
+            wanted = lambda stop, kind=kind: stop[2] != kind
+        else:
+            wanted = lambda stop: True
+
+
 class Controller:
     """What a controller of these settings does with one item after another; it says its report lines and notes its actions."""
 
-    def __init__(self, filter_1):
-        self.pef = {0: b"\0", 1: b"\x01", 2: b"\x3f", 3: b"\0"}
-        self.filters = {n: bytes(20) for n in range(1, 17)} | {1: filter_1}
+    def __init__(self, settings):
+        self.pef = {0: b"\0", 1: settings["control"], 2: settings["actions"], 3: settings["delay"]}
+        self.filters = {n: bytes(20) for n in range(1, 17)} | {1: settings["filter"]}
         self.policies = {n: bytes(3) for n in range(1, 17)}
         self.guid = bytes(17)
         self.keys = {n: bytes(2) for n in range(9)}
@@ -65,6 +97,8 @@ class Controller:
                 self.lan[channel, 18, number] = bytes(3)
                 self.lan[channel, 19, number] = bytes(12)
         self.log, self.done, self.plant, self.kills = [], 0, [], 0
+        self.own, self.seconds, self.drawn, self.sends = settings, 0, 0, 0
+        self.job = self.awaited = None
 
     def acts_of(self, event):
         """The actions of a record: one act by priority, and the OEM action."""
@@ -73,15 +107,146 @@ class Controller:
         act = [word for n, word in ((1, "power-down"), (3, "power-cycle"), (2, "reset"), (5, "diagnostic")) if some(n)][:1]
         return act + (["oem"] if some(4) else [])
 
-    def jobs(self, said):
-        """The jobs of the records that wait, each by the tables that stand when it begins."""
-        while bit(self.pef[1][0], 0) and self.done < len(self.log):
+    def text(self, key, filter):
+        """The text that a string key gives to an alert for this filter: IPMI 2.0, sections 17.11 and 30.3."""
+        named = key % 128 if key < 128 and 1 <= key % 128 <= 8 else None
+        if key >= 128:
+            having = [n for n in range(1, 9) if self.keys[n][0] % 128 == filter and self.keys[n][1] % 128 == key % 128]
+            named = having[0] if having else None
+        octets = b"".join(self.blocks[named, block] for block in range(1, 5)) if named else b""
+        return octets.split(b"\0")[0][:61]
+
+    def targets_of(self, event):
+        """The policy sets of a record, each with its alerts: policy, channel, type; address, type's octets, community; severity, text."""
+        sets = []
+        for policy_number in range(1, 16):
+            asking = [
+                n
+                for n in range(1, 17)
+                if self.filters[n][2] % 16 == policy_number and bit(self.filters[n][1] & self.pef[2][0], 0) and matches(self.filters[n], event)
+            ]
+            targets = []
+            for first, second, key in self.policies.values():
+                channel, selector = second // 16, second % 16
+                if not asking or first // 16 != policy_number or not bit(first, 3) or first % 8 > 4 or channel not in (1, 2) or selector > 4:
+                    continue
+                kind, ip = self.lan[channel, 18, selector], self.lan[channel, 19, selector][2:6]
+                if kind[0] % 8 not in (0, 6, 7) or ip == bytes(4):
+                    continue
+                port = self.own[{0: "pet_port", 6: "oem1_port", 7: "oem2_port"}[kind[0] % 8]]
+                targets.append(
+                    {
+                        "stop": (first % 8, channel, kind[0] % 8),
+                        "ip": ip,
+                        "port": port[0] + 256 * port[1],
+                        "kind": kind,
+                        "community": self.lan[channel, 16].split(b"\0")[0],
+                        "severity": max(self.filters[n][3] for n in asking),
+                        "text": self.text(key, min(asking)),
+                    }
+                )
+            sets.append(targets)
+        return sets
+
+    def body_of(self, event, guid, sequence, target):
+        """The body of the trap: PET 1.0."""
+        stamp = int.from_bytes(event[3:7], "little")
+        time = 0 if stamp == 0xFFFFFFFF or stamp < 883612800 else stamp - 883612800
+        text = target["text"]
+        tail = bytes([0xC1 + len(text)]) + text + b"\0\xc1" if text else b"\xc1"
+        return (
+            guid
+            + sequence.to_bytes(2, "big")
+            + time.to_bytes(4, "big")
+            + bytes([0xFF, 0xFF, 0x20, 0x20, target["severity"], event[7], event[11], 0, 0])
+            + event[13:16]
+            + bytes(5)
+            + b"\xff"
+            + self.own["manufacturer"][::-1]
+            + self.own["system"][::-1]
+            + tail
+        )
+
+    def trap_of(self, event, target, body, seconds):
+        """The message: RFC 1157, section 4.1.6, and PET 1.0 for the specific number."""
+        enterprise = bytes.fromhex("2b06010401986f0101")
+        specific = event[10] * 65536 + event[12] % 128 * 256 + 128 * bit(event[12], 7) + event[13] % 16
+        binding = ber(0x30, ber(6, enterprise + b"\1") + ber(4, body))
+        fields = ber(6, enterprise) + ber(0x40, self.own["agent"]) + number(2, 6) + number(2, specific)
+        trap = ber(0xA4, fields + number(0x43, 100 * seconds % 2**32) + ber(0x30, binding))
+        return ber(0x30, number(2, 0) + ber(4, target["community"]) + trap)
+
+    def alert(self, said, event, guid, target):
+        """One alert (IPMI 2.0, section 23.2, parameter 18): it waits at each `yield`, is sent `tick` or an acknowledgement, and answers how
+        it ended."""
+        self.drawn += 1
+        sequence = (self.drawn - 1) % 65535 + 1
+        body = self.body_of(event, guid, sequence, target)
+        trap = self.trap_of(event, target, body, self.seconds)
+        awaited = sequence.to_bytes(2, "little") + body[18:22][::-1] + body[25:26] + body[27:29] + body[31:34]
+        acknowledged, wait, retries = bit(target["kind"][0], 7), target["kind"][1] + 1, target["kind"][2] % 8
+        told = "failed" if target["port"] == 0 else "done"
+        to = ".".join(str(octet) for octet in target["ip"])
+        made = waited = 0
+        while True:
+            if not acknowledged and made == 1 + retries:
+                return told == "done"
+            if acknowledged and waited >= wait * (1 + retries):
+                return False
+            if made <= retries and waited >= made * wait:
+                said.append(f"send {to}:{target['port']} {trap.hex()} {told}")
+                self.sends += 1
+                made += 1
+                continue
+            self.awaited = awaited
+            heard = yield
+            self.awaited = None
+            if heard == "tick":
+                waited += 1
+            elif acknowledged and heard == awaited:
+                return True
+
+    def job_of(self, said, event, acts, sets, guid):
+        """The parts of a job in their order; it waits where an alert of it waits."""
+        ident = event[0] + 256 * event[1]
+        for word in acts:
+            if word != "oem":
+                self.act(said, word, ident)
+        for targets in sets:
+            stops = walk([target["stop"] for target in targets])
+            place = next(stops, None)
+            while place is not None:
+                ended = yield from self.alert(said, event, guid, targets[place])
+                try:
+                    place = stops.send(ended)
+                except StopIteration:
+                    place = None
+        if "oem" in acts:
+            self.act(said, "oem", ident)
+
+    def act(self, said, word, ident):
+        said.append(f"act {word} {ident:04x} done")
+        self.plant.append(f"{word} {ident:04x}")
+
+    def jobs(self, said, heard):
+        """Goes on with the job that waits, and then with those of the records that wait, each by the tables that stand when it begins."""
+        if self.job is not None and heard is not None:
+            self.go_on(said, heard)
+        while self.job is None and bit(self.pef[1][0], 0) and self.done < len(self.log):
             event = self.log[self.done]
-            number = event[0] + 256 * event[1]
-            for word in self.acts_of(event):
-                said.append(f"act {word} {number:04x} done")
-                self.plant.append(f"{word} {number:04x}")
+            guid = self.guid[1:] if bit(self.guid[0], 0) else self.own["guid"]
+            self.lines = []
+            self.job = self.job_of(self.lines, event, self.acts_of(event), self.targets_of(event), guid)
+            self.go_on(said, None)
+
+    def go_on(self, said, heard):
+        try:
+            self.job.send(heard)
+        except StopIteration:
+            self.job = None
             self.done += 1
+        said += self.lines
+        self.lines.clear()
 
     def event(self, event):
         number = event[0] + 256 * event[1]
@@ -97,7 +262,13 @@ class Controller:
         return f"event {number:04x}"
 
     def command(self, netfn, cmd, data):
-        known = {(4, 0x12): self.set_pef, (4, 0x13): self.get_pef, (12, 1): self.set_lan, (12, 2): self.get_lan}
+        known = {
+            (4, 0x12): self.set_pef,
+            (4, 0x13): self.get_pef,
+            (4, 0x17): lambda data: b"\0" if len(data) == 12 else b"\xc7",
+            (12, 1): self.set_lan,
+            (12, 2): self.get_lan,
+        }
         return known[netfn, cmd](data) if (netfn, cmd) in known else b"\xc1"
 
     def set_pef(self, data):
@@ -210,19 +381,26 @@ class Controller:
 
     def take(self, item):
         """The report lines of one item and of the jobs behind it."""
-        said = []
+        said, heard = [], None
         if item[0] == "event":
             said.append(self.event(item[1]))
+        elif item[0] == "tick":
+            self.seconds += 1
+            said.append("tick")
+            heard = "tick"
         else:
             reply = self.command(item[1], item[2], item[3])
             said.append(f"reply {reply.hex()}")
-        self.jobs(said)
+            heard = item[3] if item[1:3] == (4, 0x17) and reply == b"\0" else None
+        self.jobs(said, heard)
         return said
 
 
 def line(item):
     if item[0] == "event":
         return f"event {item[1].hex()}"
+    if item[0] == "tick":
+        return "tick"
     return f"cmd {item[1]:02x} {item[2]:02x} {item[3].hex() or '-'}"
 
 
@@ -231,19 +409,102 @@ def random_filter(some):
     octet = lambda usual: usual if some.random() < 0.8 else some.randrange(256)
     tests = [octet(some.choice([0, 0, 0xFF])) for _ in range(9)]
     return bytes(
-        [octet(0x80), octet(some.choice([0x3F, 0x20, 0x04, 0x10, 0x01])), octet(1), octet(0x10)]
+        [octet(0x80), octet(some.choice([0x3F, 0x20, 0x11, 0x01, 0x01])), octet(some.choice([1, 1, 2])), octet(some.choice([0x10, 0x20]))]
         + [octet(0xFF), octet(0xFF), octet(some.choice([4, 0xFF])), octet(0xFF), octet(some.choice([1, 0xFF]))]
         + [octet(0xFF), octet(0xFF)]
         + tests
     )
 
 
+# the keys of a settings document in the order of the octets that they give: how many, and what they are where the key is missing
+KEYS = {
+    "guid": (16, None),
+    "agent": (4, None),
+    "manufacturer": (4, 0),
+    "system": (2, 0),
+    "pet_port": (2, 162),
+    "oem1_port": (2, 162),
+    "oem2_port": (2, 162),
+    "control": (1, 1),
+    "actions": (1, 63),
+    "delay": (1, 0),
+    "filter": (20, 0),
+}
+
+
+def spelled(some, key, octets):
+    """One of the ways to write a key's value."""
+    digits = "".join(some.choice([str.upper, str.lower])(digit) for digit in octets.hex())
+    quote = some.choice("'\"")
+    if key == "guid":
+        hyphens = "-".join([digits[:8], digits[8:12], digits[12:16], digits[16:20], digits[20:]])
+        return quote + some.choice([digits, hyphens, "{" + hyphens + "}", "urn:uuid:" + hyphens]) + quote
+    if key == "agent":
+        return quote + ".".join(str(octet).zfill(some.randrange(4)) for octet in octets) + quote
+    if key == "filter":
+        return quote + digits + quote
+    number = int.from_bytes(octets, "little")
+    return some.choice([str(number), hex(number), oct(number), bin(number), f"+{number}"])
+
+
+def refused_value(some, key):
+    """A value that a key may not have."""
+    length = KEYS[key][0]
+    if key in ("guid", "agent", "filter"):
+        return some.choice(["0", "''", "true", "'" + "0" * (2 * length - 1) + "'", "'" + "0" * (2 * length - 1) + "g'"])
+    return some.choice(["-1", str(256**length), "1.0", "true", "'1'", "[1]"])
+
+
+def random_port(some):
+    return some.choice([0, 50000, 50000 + some.randrange(1000)]).to_bytes(2, "little")
+
+
+def random_settings(some):
+    """The octets that stand at each key of a controller's settings, and a document that gives them."""
+    values, lines = {}, ["# a comment", ""]
+    for key, (length, default) in KEYS.items():
+        if default is not None and some.random() < 0.4:
+            values[key] = default.to_bytes(length, "little")
+            continue
+        values[key] = {
+            "control": some.choice([b"\x01", b"\x01", b"\x00", b"\x0f"]),
+            "actions": some.choice([b"\x3f", b"\x3d", random_octets(some, 1)]),
+            "filter": random_filter(some),
+            "pet_port": random_port(some),
+            "oem1_port": random_port(some),
+            "oem2_port": random_port(some),
+        }.get(key, random_octets(some, length))
+        lines.append(f"{key} = {spelled(some, key, values[key])}")
+    some.shuffle(lines)
+    return values, lines
+
+
+def spoilt(some, lines):
+    """A document that is refused, and the last line that says so: the first key that is missing or wrong, or another key."""
+    wrong = some.sample(list(KEYS), some.randrange(3))
+    left = [line for line in lines if line.split(" = ")[0] not in wrong]
+    missing = lambda key: KEYS[key][1] is None and some.random() < 0.5
+    lines = left + [f"{key} = {refused_value(some, key)}" for key in wrong if not missing(key)]
+    if not wrong or some.random() < 0.5:
+        lines.append("another = 1")
+    some.shuffle(lines)
+    first = [key for key in KEYS if key in wrong] + ["unknown"]
+    return lines, f"settings {first[0]}\n"
+
+
+def init(state, settings, lines):
+    settings.write_text("".join(line + "\n" for line in lines))
+    done = subprocess.run([program, "init", state, settings], capture_output=True)
+    return done.returncode, done.stdout.decode()
+
+
 def random_event(some):
     number = some.choice([0, 0xFFFF] + list(range(1, 60)) * 3)
     kind = some.choice([2] * 12 + [0xC0, 0xE0, 0x00, 0x03])
     data = [some.choice([0x52, some.randrange(256)]), some.randrange(256), some.randrange(256)]
-    return number.to_bytes(2, "little") + bytes(
-        [kind, 0, 0xCA, 0x9A, 0x3B, some.choice([0x20, some.randrange(256)]), 0, 4, 4, some.randrange(256)]
+    stamp = some.choice([1000000000] * 5 + [883612799, 883612800, 0xFFFFFFFF, some.randrange(2**32)])
+    return number.to_bytes(2, "little") + bytes([kind]) + stamp.to_bytes(4, "little") + bytes(
+        [some.choice([0x20, some.randrange(256)]), 0, 4, 4, some.randrange(256)]
         + [some.choice([1, 0x81])]
         + data
     )
@@ -251,6 +512,79 @@ def random_event(some):
 
 def random_octets(some, length):
     return bytes(some.randrange(256) for _ in range(length))
+
+
+def random_table(some):
+    """A command for the tables that alerts need."""
+    kind = some.random()
+    place = some.choice([1, 1, 2, 2, 3, 4])
+    channel = some.choice([1, 1, 2])
+    if kind < 0.35:
+        first = some.choice([0x10, 0x10, 0x20]) + some.choice([8, 8, 8, 0]) + some.choice([0, 0, 1, 1, 2, 3, 4, 5])
+        key = some.choice([0, 1, 2, 0x81, 0x82, some.randrange(256)])
+        entry = some.choice([1, 2, 3, 4, 5, 16])
+        return ("cmd", 4, 0x12, bytes([9, entry, first, some.choice([channel * 16 + place] * 5 + [some.randrange(256)]), key]))
+    if kind < 0.55:
+        wait = some.choice([0, 0, 1, 2, 2, some.randrange(256)])
+        kind = some.choice([0x00, 0x80, 0x80, 0x06, 0x86, 0x07, 0x87, 0x01])
+        return ("cmd", 12, 1, bytes([channel, 18, place, kind, wait, some.choice([0, 1, 2, 3, 7, 0xF9])]))
+    if kind < 0.8:
+        ip = some.choice([bytes([127, 0, 0, 1])] * 3 + [bytes([127, 0, some.randrange(1, 250), some.randrange(1, 250)]), bytes(4)])
+        return ("cmd", 12, 1, bytes([channel, 19, place, 0, 0]) + ip + bytes(6))
+    if kind < 0.88:
+        key = bytes([some.choice([1, 1, 2, some.randrange(256)]), some.choice([1, 2, some.randrange(256)])])
+        return ("cmd", 4, 0x12, bytes([12, some.randrange(9)]) + key)
+    if kind < 0.96:
+        text = bytes(some.choice([0x41, 0x42, 0x00] + [0x43] * 30) for _ in range(some.choice([16, 16, 5, 1])))
+        return ("cmd", 4, 0x12, bytes([13, some.randrange(9), some.choice([1, 1, 2, 3, 4])]) + text)
+    return ("cmd", 4, 0x12, bytes([10, some.choice([0, 1])]) + random_octets(some, 16))
+
+
+def ready(some):
+    """Commands with which most events have alerts: PEF is enabled, a filter asks for them, and a set has a few usable destinations."""
+    items = [("cmd", 4, 0x12, bytes([1, 0x01])), ("cmd", 4, 0x12, bytes([2, 0x3F]))]
+    for place in some.choice([(2,), (16,), (2, 16)]):
+        front = [0x80, some.choice([0x01, 0x01, 0x31]), 1, some.choice([0x08, 0x10, 0x20])]
+        items.append(("cmd", 4, 0x12, bytes([6, place] + front + [0xFF] * 7) + bytes(9)))
+        items.append(("cmd", 4, 0x12, bytes([12, place // 2, place, 1])))
+        for block in range(1, some.choice([2, 5])):
+            items.append(("cmd", 4, 0x12, bytes([13, place // 2, block]) + bytes([0x40 + place]) * 16))
+    for place in range(1, some.choice([2, 4, 5])):
+        channel = some.choice([1, 1, 2])
+        policy = some.choice([0, 1, 1, 2, 3, 4])
+        kind = some.choice([0x00, 0x80, 0x80, 0x06, 0x86, 0x07])
+        items.append(("cmd", 4, 0x12, bytes([9, place, 0x18 + policy, channel * 16 + place, some.choice([0, 1, 0x81])])))
+        items.append(("cmd", 12, 1, bytes([channel, 18, place, kind, some.choice([0, 0, 1, 2]), some.choice([0, 0, 1, 2, 3])])))
+        items.append(("cmd", 12, 1, bytes([channel, 19, place, 0, 0, 127, 0, 0, place]) + bytes(6)))
+    return items + [random_table(some) for _ in range(some.choice([0, 0, 5]))]
+
+
+def random_acknowledgement(some, model):
+    """Often the one that is awaited, or nearly so."""
+    octets = model.awaited or random_octets(some, 12)
+    if some.random() < 0.5:
+        place = some.randrange(12)
+        octets = octets[:place] + bytes([octets[place] ^ some.choice([1, 0x80])]) + octets[place + 1 :]
+    return ("cmd", 4, 0x17, octets if some.random() < 0.95 else octets[: some.randrange(12)])
+
+
+def random_item(some, model):
+    kind = some.random()
+    if kind < 0.25:
+        return ("event", random_event(some))
+    if kind < 0.5:
+        return ("tick",)
+    if kind < 0.6:
+        return random_acknowledgement(some, model)
+    return local(random_table(some) if kind < 0.8 else random_command(some))
+
+
+def local(item):
+    """The same, but that an address of a destination is one of loopback."""
+    _, netfn, cmd, data = item
+    if (netfn, cmd) == (12, 1) and len(data) == 15 and data[1] == 19 and data[5:9] != bytes(4):
+        item = ("cmd", 12, 1, data[:5] + bytes([127, 0, data[7] % 200 + 1, data[8] % 200 + 1]) + data[9:])
+    return item
 
 
 def random_command(some):
@@ -296,13 +630,13 @@ def run(state, script):
     return done.returncode, done.stdout.decode()
 
 
-def run_with_kills(some, state, script):
-    """Runs the script until a call ends by itself; answers how many were killed before."""
+def run_with_kills(some, state, script, span):
+    """Runs the script until a call ends by itself; answers how many were killed before, each within a span that grows."""
     kills = 0
     while True:
-        process = subprocess.Popen([program, "run", state, script], stdout=subprocess.DEVNULL)
+        process = subprocess.Popen([program, "run", state, script], stdout=subprocess.DEVNULL, stderr=subprocess.DEVNULL)
         try:
-            if process.wait(some.random() * 0.0015) != 0:
+            if process.wait(some.random() * span * (1 + kills / 8)) != 0:
                 sys.exit(f"status {process.returncode} behind {kills} kills")
             return kills
         except subprocess.TimeoutExpired:
@@ -328,38 +662,47 @@ def wrong(seed, number, what, script, wanted, got):
 
 def play(folder, some, seed, number):
     """One state file and a few scripts."""
-    filter_1 = random_filter(some)
-    model = Controller(filter_1)
+    values, lines = random_settings(some)
+    model = Controller(values)
     state, settings, script = folder / "state", folder / "settings", folder / "script"
     for old in (state, folder / "state.plant"):
         old.unlink(missing_ok=True)
-    settings.write_text(f'filter = "{filter_1.hex()}"\n')
-    assert subprocess.run([program, "init", state, settings], capture_output=True).returncode == 0
+    bad, word = spoilt(some, lines)
+    for text, wanted, file in ((bad, (4, word), b""), (lines, (0, "ok 0\n"), b"\xa5\1\x37\0" + b"".join(values.values()) + b"\0")):
+        begin = time.monotonic()
+        got = init(state, settings, text)
+        span = 3 * (time.monotonic() - begin)
+        if got != wanted or state.read_bytes() != file:
+            wrong(seed, number, f"init: status {got[0]}", settings.read_text(), str(wanted), str(got))
     for which in range(some.randrange(1, 4)):
-        count = some.randrange(1, 120)
-        items = [("event", random_event(some)) if some.random() < 0.5 else random_command(some) for _ in range(count)]
+        items = ready(some) if which == 0 and some.random() < 0.8 else []
+        replies = [model.take(item) for item in items]
+        for _ in range(some.randrange(1, 120)):
+            items.append(random_item(some, model))
+            replies.append(model.take(items[-1]))
+        count = len(items)
         head = [f"script {which:08x} {count}"]
         lines = [line(item) for item in items]
         cut = some.randrange(count + 1) if some.random() < 0.4 else None
         said = [f"open {which:08x} {count}"]
         if cut is not None:
             script.write_text("\n".join(head + lines[:cut]) + "\n")
-            for item in items[:cut]:
-                said += model.take(item)
+            for reply in replies[:cut]:
+                said += reply
             wanted = "\n".join(said + [f"line {cut + 2}"]) + "\n"
             status, got = run(state, script)
             if (status, got) != (4, wanted):
                 wrong(seed, number, f"status {status}, first half", script.read_text(), wanted, got)
-            said, items = [], items[cut:]
+            said, items, replies = [], items[cut:], replies[cut:]
         script.write_text("\n".join(head + lines + ["end"]) + "\n")
         copy, copied_plant = folder / "copy", folder / "copy.plant"
         kills = None
         if some.random() < 0.5:
             shutil.copyfile(state, copy)
             shutil.copyfile(folder / "state.plant", copied_plant)
-            kills = run_with_kills(some, copy, script)
-        for item in items:
-            said += model.take(item)
+            kills = run_with_kills(some, copy, script, span)
+        for reply in replies:
+            said += reply
         taken = len(items) + (2 if cut is None else 1)
         wanted = "\n".join(said + ["close", f"ok {taken}"]) + "\n"
         status, got = run(state, script)
@@ -373,7 +716,7 @@ def play(folder, some, seed, number):
         plant = "".join(act + "\n" for act in model.plant)
         if (folder / "state.plant").read_text() != plant:
             wrong(seed, number, "the plant's file", script.read_text(), plant, (folder / "state.plant").read_text())
-    return len(model.plant), model.kills
+    return len(model.plant), model.sends, model.kills
 
 
 def main():
@@ -385,12 +728,12 @@ def main():
     some = random.Random(seed)
     if not program.exists():
         sys.exit(f"{program} is missing: ./demo at the top proves and builds it")
-    acts = kills = 0
+    acts = sends = kills = 0
     with tempfile.TemporaryDirectory(dir="/dev/shm") as folder:
         for number in range(rounds):
-            some_acts, some_kills = play(pathlib.Path(folder), some, seed, number)
-            acts, kills = acts + some_acts, kills + some_kills
-    print(f"{rounds} rounds, {acts} actions, {kills} kills, seed {seed}: each run said and did what the model does")
+            some_acts, some_sends, some_kills = play(pathlib.Path(folder), some, seed, number)
+            acts, sends, kills = acts + some_acts, sends + some_sends, kills + some_kills
+    print(f"{rounds} rounds, {acts} actions, {sends} traps, {kills} kills, seed {seed}: each run said and did what the model does")
 
 
 main()

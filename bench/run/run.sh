@@ -35,6 +35,20 @@ make_script() {
     }' > "$1"
 }
 
+# make_alerts FILE COUNT: up to 1,000 events with an ID each, for which the filter asks for an alert that goes to a port of this machine
+make_alerts() {
+    awk -v n="$2" 'BEGIN {
+        if (n > 1000) n = 1000
+        printf "script 00000001 %d\n", n + 4
+        print "cmd 04 12 060180010110ffff04ff010400000000000000000000"
+        print "cmd 04 12 0901181100"
+        print "cmd 0c 01 011201000000"
+        print "cmd 0c 01 01130100007f000001000000000000"
+        for (i = 1; i <= n; i++) printf "event %02x%02x0200ca9a3b200004043001521020\n", i % 256, int(i / 256)
+        print "end"
+    }' > "$1"
+}
+
 # make_state FILE OCTETS KIND: a state file of about so many octets, whose entries open and close a script of no event and then are
 # events that the filter asks no action for, under one ID (`one`), or under IDs from 1 to 1,000 again and again (`many`); or of each four
 # entries a command that writes a parameter, one that reads one, such an event, and an event that the filter asks an action for, with its
@@ -79,17 +93,21 @@ seconds() {
     awk -v a="$start" -v b="$end" 'BEGIN { printf "%.6f\n", (b - a) / 1e9 }'
 }
 
-echo 'filter = "80200010ffff04ff010400000000000000000000"' > "$memory/settings"
+cat > "$memory/settings" <<'TOML'
+guid = "00112233-4455-6677-8899-aabbccddeeff"
+agent = "10.0.0.2"
+filter = "80200010ffff04ff010400000000000000000000"
+TOML
 
 # median: the one in the middle of the numbers of the lines
 median() {
     sort -n | awk '{ line[NR] = $1 } END { print line[int((NR + 1) / 2)] }'
 }
 
-# store NAME FOLDER COUNT ROUNDS
+# store NAME FOLDER COUNT ROUNDS MAKE: of a script that MAKE makes, of so many events
 store() {
-    local name=$1 folder=$2 count=$3 rounds=$4 entries
-    make_script "$memory/script" "$count"
+    local name=$1 folder=$2 count=$3 rounds=$4 make=$5 entries
+    "$make" "$memory/script" "$count"
     : > "$memory/runs"
     : > "$memory/loops"
     for _ in $(seq 1 "$rounds"); do
@@ -97,17 +115,21 @@ store() {
         "$program" init "$folder/state" "$memory/settings" > /dev/null
         seconds "$program" run "$folder/state" "$memory/script" >> "$memory/runs"
         entries=$(($(wc -l < "$memory/out") - 1))
-        [ "$(tail -n 1 "$memory/out")" = "ok $entries" ]
+        grep -q '^ok [0-9]*$' "$memory/out"
         "$memory/appends" "$folder/appended" "$entries" >> "$memory/loops"
     done
     awk -v name="$name" -v rounds="$rounds" -v n="$entries" -v t="$(median < "$memory/runs")" -v c="$(median < "$memory/loops")" \
         -v ratio="$(paste "$memory/loops" "$memory/runs" | awk '{ print $1 / $2 }' | median)" 'BEGIN {
-        printf "%-10s %3d rounds of %6d entries   run %8.0f a second   C loop %8.0f a second   ratio %.2f\n", name, rounds, n, n / t, n / c, ratio
+        printf "%-18s %3d rounds of %6d entries   run %8.0f a second   C loop %8.0f a second   ratio %.2f\n", name, rounds, n, n / t, n / c, ratio
     }'
 }
 
-store "on disk" "$disk" "$on_disk" "$disk_rounds"
-store "in memory" "$memory" "$in_memory" "$memory_rounds"
+store "on disk" "$disk" "$on_disk" "$disk_rounds" make_script
+store "in memory" "$memory" "$in_memory" "$memory_rounds" make_script
+
+# of each alert two entries are stored, its event and the outcome of its trap, with a datagram between them
+store "alerts, on disk" "$disk" "$on_disk" "$disk_rounds" make_alerts
+store "alerts, in memory" "$memory" "$in_memory" "$memory_rounds" make_alerts
 
 # opening NAME OCTETS KIND: each call opens the file, finds its script closed, and stores nothing
 printf 'script 00000000 0\nend\n' > "$memory/closed"

@@ -1,5 +1,6 @@
 //! The alert strings and their keys.
 ghost use Rattle.std.specs.Prelude.{◌≡◌, ◌≤◌, length, replicate, slice_get, slice_set, IfOk, OnOk, OnErr};
+ghost use Rattle.std.specs.Option.{ForSome};
 ghost use Rattle.std.specs.Result.{result_err};
 ghost use Rattle.alert_strings.specs.Kept.{blocks, keys};
 ghost use Rattle.alert_strings.specs.Table.{number_fault, block_fault, block_place, filled, octets_of, text_of};
@@ -80,7 +81,9 @@ impl Strings {
     /// The string, 1 to 8, that a string key of a policy entry names for an event of this filter; none where it names
     /// none.
     pub fn text_for(&self, key: u8, filter: u8) -> Option<u8>
-        ensures { result ≡ string_for 8 (keys self.now) key filter }
+        ensures named { result ≡ string_for 8 (keys self.now) key filter }
+        ensures within { ForSome result (λ number. number ≤ 8) }
+        ensures count { length (keys self.now) ≡ 9 }
     {
         let wanted = key % 128;
         if asks_for_set(key) {
@@ -93,7 +96,8 @@ impl Strings {
     /// The text of a string: the octets before the first 00h, cut to 61.
     pub fn text(&self, number: u8) -> Text
         requires { number ≤ 8 }
-        ensures { result ≡ text_of 4 (blocks self.now) number }
+        ensures text { result ≡ text_of 4 (blocks self.now) number }
+        ensures count { length (blocks self.now) ≡ 36 }
     {
         text_in(self.octets(number))
     }

@@ -1,4 +1,4 @@
-//! The settings of a console's state file: its kind, their octets, and the text that gives them.
+//! The settings of a console's state file: its kind, their octets, and the document that gives them.
 #![tactic(auto)]
 
 mod kind;

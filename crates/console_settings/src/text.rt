@@ -1,18 +1,24 @@
-//! The settings text: one line that gives the port for acknowledgements.
-ghost use Rattle.std.specs.Prelude.{◌≡◌, ◌≤◌, true, false, codes, bytes_eq, take, drop, IfSome, MatchOption};
-ghost use Rattle.console_settings.specs.Settings.{console, port_of, port_in, settings_of};
-ghost use Rattle.console_settings.specs.Laws.{long_gives};
+//! The settings text.
+ghost use Rattle.std.specs.Prelude.{◌≡◌, length, Ok, IfOk};
+ghost use Rattle.toml.specs.View.{table_view};
+ghost use Rattle.settings_document.specs.Document.{settings_in};
+ghost use Rattle.settings_document.specs.Laws.{long_refused};
+ghost use Rattle.console_settings.specs.Settings.{console, fields, settings_of};
 
 use crate::kind::KIND;
 use board_core::Bytes;
 use pef_journal::FileKind;
-use script_text::{SettingsFault, SettingsOctets, SettingsText, count, without_last};
+use report_line::{SettingsKey, SettingsRefusal};
+use script_text::{SettingsFault, SettingsOctets, SettingsText};
+use settings_document::{has_only, number_or, read_document};
 use std::alloc::Global;
+use toml::Table;
 
-/// The port for acknowledgements where the text doesn't say another: RMCP's (ASF 2.0, section 3.2).
-pub const DEFAULT_PORT: u16 = 623;
+/// The port for acknowledgements where the document doesn't say another: RMCP's (ASF 2.0, section 3.2).
+pub const DEFAULT_PORT: u32 = 623;
 
-/// A console's settings: the port of the line `ack_port = N`, with or without 0Ah at its end, or of an empty text 623.
+/// A console's settings: a TOML document in UTF-8 of at most 65,536 octets, with no key but `ack_port`, a whole number of 0 to
+/// 65,535. Where it is missing it is 623.
 pub struct ConsoleSettings;
 
 impl SettingsText for ConsoleSettings {
@@ -20,46 +26,31 @@ impl SettingsText for ConsoleSettings {
 
     ghost settings_of = { settings_of };
 
-    ghost bounded = { long_gives };
+    ghost bounded = { long_refused fields };
 
     fn kind() -> FileKind {
         KIND
     }
 
-    fn read(_alloc: Global, text: &[u8]) -> Result<SettingsOctets, SettingsFault> {
-        let Some(port) = port_in(text) else {
-            return Err(SettingsFault::Refused);
-        };
-        let mut settings = Bytes::new();
-        let _ = settings.extend(&port.to_le_bytes());
-        Ok(settings)
+    fn read(alloc: Global, text: &[u8]) -> Result<SettingsOctets, SettingsFault> {
+        let document = read_document(alloc, text)?;
+        match settings_in(&document) {
+            Ok(settings) => Ok(settings),
+            Err(refusal) => Err(SettingsFault::Refused(refusal)),
+        }
     }
 }
 
-// The port that a text gives, and None where it gives none.
-fn port_in(text: &[u8]) -> Option<u16>
-    ensures { result ≡ port_in text.now }
+// The settings octets that a document gives, or why it is refused.
+fn settings_in(document: &Table) -> Result<SettingsOctets, SettingsRefusal>
+    ensures given { result ≡ settings_in fields (Ok (table_view document.now)) }
+    ensures long { IfOk result (λ settings. length settings ≡ 2) }
 {
-    if text.is_empty() {
-        return Some(DEFAULT_PORT);
+    let port = number_or(document, SettingsKey::AckPort, DEFAULT_PORT, 65_535)? as u16;
+    if !has_only(document, &[SettingsKey::AckPort]) {
+        return Err(SettingsRefusal::Unknown);
     }
-    port_of(digits_in(without_last(text, b'\n'))?)
-}
-
-// What stands behind the key.
-fn digits_in(line: &[u8]) -> Option<&[u8]>
-    ensures { MatchOption result (bytes_eq (take 11 line.now) (codes "ack_port = ") ≡ false)
-        (λ digits. (bytes_eq (take 11 line.now) (codes "ack_port = ") ≡ true) × (digits.now ≡ drop 11 line.now)) }
-{
-    line.strip_prefix(b"ack_port = ".as_slice())
-}
-
-fn port_of(digits: &[u8]) -> Option<u16>
-    ensures { result ≡ port_of digits.now }
-{
-    let port = count(digits)?;
-    if port > 65_535 {
-        return None;
-    }
-    Some(port as u16)
+    let mut settings = Bytes::new();
+    let _ = settings.extend(&port.to_le_bytes());
+    Ok(settings)
 }

@@ -1,6 +1,6 @@
 -- Which destinations an alert can be sent to: IPMI 2.0, section 23.2, table 23-4. That it is one of an own port of this project for each
 -- destination type, and that the address 0.0.0.0 is none, are this project's choices.
-use Rattle.std.specs.Prelude.{ℕ, ◌+◌, Bool, not, ◌==◌, ◌&&◌, ◌||◌, if◌then◌else◌, List, take, drop, Option, Some, None}
+use Rattle.std.specs.Prelude.{ℕ, ◌+◌, ◌≤◌, Bool, not, ◌==◌, ◌&&◌, ◌||◌, if◌then◌else◌, List, take, drop, Option, Some, None}
 use Rattle.std.specs.List.{before_first, list_all}
 use Rattle.lan_dest.specs.declared.destination.Destination.{Destination}
 use Rattle.lan_dest.specs.declared.destination.Ports.{Ports}
@@ -42,3 +42,8 @@ destination_at ports tables channel number =
     if is_channel channel && is_selector number
     then if_usable (destination_from ports (tables (at channel 18 number)) (tables (at channel 19 number)) (tables (at channel 16 0)))
     else None
+
+-- what an attempt takes: 1 to 256 seconds between transmissions, and at most 7 retries
+pub record CanBeTried (destination : Destination) : Type 0 where
+  pub wait : (1 ≤ destination.wait) × (destination.wait ≤ 256)
+  pub retries : destination.retries ≤ 7

@@ -138,6 +138,13 @@ impl Attempt {
         }
     }
 
+    /// At most one transmission is due. This does nothing when it runs.
+    pub fn has_one_due(&self)
+        ensures { sends self.now.wait self.now.retries self.now.ticks ≤ self.now.outcomes + 1 }
+    {
+        let _ = &self.due;
+    }
+
     /// The number of outcomes.
     pub fn outcomes(&self) -> u8
         ensures { result ≡ self.now.outcomes }

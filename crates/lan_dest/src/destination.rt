@@ -19,6 +19,24 @@ pub struct Destination {
     pub community: Community,
 }
 
+impl Destination {
+    ghost use Rattle.std.specs.Prelude.{◌≡◌};
+
+    /// The same destination.
+    pub fn copy(&self) -> Destination
+        ensures { result ≡ self.now }
+    {
+        Destination {
+            to: self.to,
+            acknowledged: self.acknowledged,
+            kind: self.kind,
+            wait: self.wait,
+            retries: self.retries,
+            community: self.community.copy(),
+        }
+    }
+}
+
 /// The UDP ports of the destination types.
 #[derive(Clone, Copy, Debug, PartialEq, Eq)]
 pub struct Ports {

@@ -1,8 +1,9 @@
 //! Destinations that alerts can be sent to.
 ghost use Rattle.std.specs.Prelude.{◌≡◌, ◌==◌, ◌≤◌, length, if◌then◌else◌};
 ghost use Rattle.std.specs.List.{position_or_len, list_all};
+ghost use Rattle.std.specs.Option.{ForSome};
 ghost use Rattle.lan_dest.specs.Kept.{kept};
-ghost use Rattle.lan_dest.specs.Usable.{text_of, is_kind, port_for, destination_from, if_usable, destination_at};
+ghost use Rattle.lan_dest.specs.Usable.{text_of, is_kind, port_for, destination_from, if_usable, destination_at, CanBeTried};
 
 use crate::destination::{Destination, Ports};
 use crate::lan::{DESTINATIONS, Lan, is_channel};
@@ -12,7 +13,8 @@ impl Lan {
     /// The destination of this number on this channel, where an alert can be sent to it: channel 1 or 2, number 0 to 4,
     /// type 0, 6 or 7, and another address than 0.0.0.0.
     pub fn destination(&self, ports: &Ports, channel: u8, number: u8) -> Option<Destination>
-        ensures { result ≡ destination_at ports.now (kept self.now) channel number }
+        ensures found { result ≡ destination_at ports.now (kept self.now) channel number }
+        ensures ranges { ForSome result CanBeTried }
     {
         if !is_channel(channel) || number >= DESTINATIONS {
             return None;
@@ -30,7 +32,8 @@ fn destination_from(
     address: [u8; 12],
     community: &[u8; 18],
 ) -> Option<Destination>
-    ensures { result ≡ if_usable (destination_from ports.now kind address community.now) }
+    ensures found { result ≡ if_usable (destination_from ports.now kind address community.now) }
+    ensures ranges { ForSome result CanBeTried }
 {
     let [flags, timeout, retries] = kind;
     let mut ip = [0; 4];

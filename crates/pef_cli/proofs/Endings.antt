@@ -1,9 +1,10 @@
 -- From what `init` does to its call, and which statuses a form has.
-use Rattle.std.proofs.Common.{◌≡◌, ◌≢◌, ◌⊎◌, inl, inr, ⊎_elim, ℕ, List, Some, None, IsTrue, refl, sym, ◌∙◌, ap, subst, arith}
+use Rattle.std.proofs.Common.{◌≡◌, ◌≢◌, ◌⊎◌, inl, inr, ⊎_elim, ℕ, List, Some, Ok, Err, IsTrue, refl, sym, ◌∙◌, ap, subst, arith}
 use Rattle.board_core.specs.Causes.{Rose}
 use Rattle.pef_journal.specs.Image.{IsFormatted}
 use Rattle.report_line.specs.declared.ending.Ending.{Ending}
 use Rattle.report_line.specs.declared.ending.Ending.TheVariants as ending
+use Rattle.report_line.specs.declared.refusal.SettingsRefusal.{SettingsRefusal}
 use Rattle.report_line.specs.Finishing.{Finishes}
 use Rattle.script_run.specs.Top.{Outside, EndsWith, IsRunEnd}
 use Rattle.script_run.proofs.EndLemmas.{ended, status_zero, done_ends, memory_ends}
@@ -11,30 +12,30 @@ use Rattle.pef_cli.specs.Init.{IsInitEnd, Making, Makes, Inits}
 use Rattle.pef_cli.specs.Listing.{IsListEnd}
 
 module _ (of : Making) (old new : Outside) (status : ℕ) where
-  -- the text gives no settings
-  refused : (end : Ending) → Makes of old.board new.board old.unread old.reads new.reads end → IsTrue new.board.tells → (IsFormatted of.kinds old.board.octets → ⊥) → (text : List ℕ) → old.unread ≡ Some text → of.settings_of text ≡ None
-      → (end ≡ ending.Settings) ⊎ ((end ≡ ending.Input) ⊎ ((end ≡ ending.Disk) ⊎ (end ≡ ending.Memory)))
-  refused (ending.Done count) m t isnt text told none =
+  -- the text is refused
+  refused : (end : Ending) → Makes of old.board new.board old.unread old.reads new.reads end → IsTrue new.board.tells → (IsFormatted of.kinds old.board.octets → ⊥) → (text : List ℕ) (refusal : SettingsRefusal) → old.unread ≡ Some text → of.settings_of text ≡ Err refusal
+      → (end ≡ ending.Settings refusal) ⊎ ((end ≡ ending.Input) ⊎ ((end ≡ ending.Disk) ⊎ (end ≡ ending.Memory)))
+  refused (ending.Done count) m t isnt text refusal told none =
       let made = m.made (ap ending.Done m.is_end) t in
-      let clash : Some made.settings ≡ None = sym (made.given text told) ∙ none in absurd (cc clash)
-  refused ending.Settings m t isnt text told none = inl refl
-  refused ending.Input m t isnt text told none = inr (inl refl)
-  refused ending.Disk m t isnt text told none = inr (inr (inl refl))
-  refused ending.Memory m t isnt text told none = inr (inr (inr refl))
-  refused ending.Formatted m t isnt text told none = absurd (isnt (m.formatted refl t))
-  refused ending.Usage m t isnt text told none = absurd m.is_end
-  refused ending.Unformatted m t isnt text told none = absurd m.is_end
-  refused (ending.Line number) m t isnt text told none = absurd m.is_end
-  refused (ending.Unfinished id count) m t isnt text told none = absurd m.is_end
-  refused ending.Output m t isnt text told none = absurd m.is_end
-  refused ending.Full m t isnt text told none = absurd m.is_end
+      let clash : Ok made.settings ≡ Err refusal = sym (made.given text told) ∙ none in absurd (cc clash)
+  refused (ending.Settings why) m t isnt text refusal told none = let same : Err why ≡ Err refusal = sym (m.refused why refl text told) ∙ none in inl (ap ending.Settings (cc same))
+  refused ending.Input m t isnt text refusal told none = inr (inl refl)
+  refused ending.Disk m t isnt text refusal told none = inr (inr (inl refl))
+  refused ending.Memory m t isnt text refusal told none = inr (inr (inr refl))
+  refused ending.Formatted m t isnt text refusal told none = absurd (isnt (m.formatted refl t))
+  refused ending.Usage m t isnt text refusal told none = absurd m.is_end
+  refused ending.Unformatted m t isnt text refusal told none = absurd m.is_end
+  refused (ending.Line number) m t isnt text refusal told none = absurd m.is_end
+  refused (ending.Unfinished id count) m t isnt text refusal told none = absurd m.is_end
+  refused ending.Output m t isnt text refusal told none = absurd m.is_end
+  refused ending.Full m t isnt text refusal told none = absurd m.is_end
 
   -- the text is good
   complete : (end : Ending) (part : List ℕ) → EndsWith end part old.writes new.writes status → Makes of old.board new.board old.unread old.reads new.reads end → IsTrue new.board.tells → (IsFormatted of.kinds old.board.octets → ⊥)
-      → (text settings : List ℕ) → old.unread ≡ Some text → of.settings_of text ≡ Some settings
+      → (text settings : List ℕ) → old.unread ≡ Some text → of.settings_of text ≡ Ok settings
       → (status ≡ 0) ⊎ ((status ≡ 10) ⊎ (Rose old.reads new.reads ⊎ (Rose old.board.disk_faults new.board.disk_faults ⊎ Rose old.writes new.writes)))
   complete (ending.Done count) part e m t isnt text settings told good = ⊎_elim inl (λ r. inr (inr (inr (inr r)))) (done_ends count part old.writes new.writes status e)
-  complete ending.Settings part e m t isnt text settings told good = let clash : Some settings ≡ None = sym good ∙ m.refused refl text told in absurd (cc clash)
+  complete (ending.Settings why) part e m t isnt text settings told good = let clash : Ok settings ≡ Err why = sym good ∙ m.refused why refl text told in absurd (cc clash)
   complete ending.Input part e m t isnt text settings told good = inr (inr (inl (m.input refl)))
   complete ending.Disk part e m t isnt text settings told good = inr (inr (inr (inl (m.disk refl))))
   complete ending.Memory part e m t isnt text settings told good = inr (inl (memory_ends part old.writes new.writes status e))
@@ -74,7 +75,7 @@ two (ending.Done count) part before after status not e is = ⊎_elim (λ x. omeg
 two ending.Usage part before after status not e is = not refl
 two ending.Unformatted part before after status not e is = ⊎_elim (λ x. omega (arith, x.1, is)) (λ x. omega (arith, x.2, is)) e
 two (ending.Line number) part before after status not e is = ⊎_elim (λ x. omega (arith, x.1, is)) (λ x. omega (arith, x.2, is)) e
-two ending.Settings part before after status not e is = ⊎_elim (λ x. omega (arith, x.1, is)) (λ x. omega (arith, x.2, is)) e
+two (ending.Settings refusal) part before after status not e is = ⊎_elim (λ x. omega (arith, x.1, is)) (λ x. omega (arith, x.2, is)) e
 two (ending.Unfinished id count) part before after status not e is = ⊎_elim (λ x. omega (arith, x.1, is)) (λ x. omega (arith, x.2, is)) e
 two ending.Input part before after status not e is = ⊎_elim (λ x. omega (arith, x.1, is)) (λ x. omega (arith, x.2, is)) e
 two ending.Disk part before after status not e is = ⊎_elim (λ x. omega (arith, x.1, is)) (λ x. omega (arith, x.2, is)) e

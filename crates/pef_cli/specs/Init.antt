@@ -1,30 +1,30 @@
 -- What making a state file does, answers and leaves, for any kind of file.
-use Rattle.std.specs.Prelude.{◌≡◌, ◌≢◌, ◌⊎◌, ⊤, ℕ, ◌≤◌, IsTrue, List, [], ◌∷◌, ◌++◌, ◌+◌, length, drop, Option, Some, None}
+use Rattle.std.specs.Prelude.{◌≡◌, ◌≢◌, ◌⊎◌, ⊤, ℕ, ◌≤◌, IsTrue, List, [], ◌∷◌, ◌++◌, ◌+◌, length, drop, Option, Some, Result, Ok, Err}
 use Rattle.board_core.specs.Causes.{Rose}
 use Rattle.board_core.specs.Board.{SyncsFirst, BoardView, CrashState, SameSteps, Only, NeverSynced, IsFileRun}
 use Rattle.pef_journal.specs.Image.{header, IsFormatted, Stands}
 use Rattle.pef_journal.specs.declared.kind.FileKind.{FileKind}
-use Rattle.script_text.specs.declared.settings.SettingsFault.{SettingsFault}
-use Rattle.script_text.specs.declared.settings.SettingsFault.TheVariants.{Refused, Memory as SettingsMemory}
 use Rattle.script_text.specs.declared.whole.TextFault.{TextFault}
 use Rattle.script_text.specs.declared.whole.TextFault.TheVariants.{Source, Memory as TextMemory}
 use Rattle.pef_cli.specs.declared.init_fault.InitFault.{InitFault}
 use Rattle.pef_cli.specs.declared.init_fault.InitFault.TheVariants.{Disk, Formatted, Input, Settings, Memory}
 use Rattle.report_line.specs.declared.ending.Ending.{Ending}
+use Rattle.report_line.specs.declared.refusal.SettingsRefusal.{SettingsRefusal}
 use Rattle.report_line.specs.declared.ending.Ending.TheVariants as ending
 use Rattle.script_run.specs.Top.{Outside, EndsWith, WritesNothing}
 
--- What is made: the kinds as one of which a file counts as formatted, the kind that it gets, and the settings that a text gives.
+-- What is made: the kinds as one of which a file counts as formatted, the kind that it gets, and the settings that a text
+-- gives, or why it is refused.
 pub record Making : Type 0 where
   pub kinds : List FileKind
   pub kind : FileKind
-  pub settings_of : List ℕ → Option (List ℕ)
+  pub settings_of : List ℕ → Result (List ℕ) SettingsRefusal
 
-abbrev pub making : List FileKind → FileKind → (List ℕ → Option (List ℕ)) → Making
+abbrev pub making : List FileKind → FileKind → (List ℕ → Result (List ℕ) SettingsRefusal) → Making
 making kinds kind settings_of = record { kinds = kinds; kind = kind; settings_of = settings_of }
 
 abbrev pub fault_ending : InitFault → Ending
-fault_ending Settings = ending.Settings
+fault_ending (Settings refusal) = ending.Settings refusal
 fault_ending Input = ending.Input
 fault_ending Disk = ending.Disk
 fault_ending Memory = ending.Memory
@@ -35,18 +35,13 @@ abbrev pub fault_of : TextFault → InitFault
 fault_of Source = Input
 fault_of TextMemory = Memory
 
--- what a fault in a settings text is to `init`
-abbrev pub refusal_of : SettingsFault → InitFault
-refusal_of Refused = Settings
-refusal_of SettingsMemory = Memory
-
 -- what is to be read gives these settings, where the source tells it
 abbrev pub Gives : Making → Option (List ℕ) → List ℕ → Type 0
-Gives of source settings = (text : List ℕ) → source ≡ Some text → of.settings_of text ≡ Some settings
+Gives of source settings = (text : List ℕ) → source ≡ Some text → of.settings_of text ≡ Ok settings
 
--- it gives none
-abbrev pub GivesNone : Making → Option (List ℕ) → Type 0
-GivesNone of source = (text : List ℕ) → source ≡ Some text → of.settings_of text ≡ None
+-- it is refused for this reason
+abbrev pub IsRefused : Making → Option (List ℕ) → SettingsRefusal → Type 0
+IsRefused of source refusal = (text : List ℕ) → source ≡ Some text → of.settings_of text ≡ Err refusal
 
 -- The file holds the empty history under the settings that the text gives, and every crash leaves it so. What was behind the first
 -- gate is there as before.
@@ -75,7 +70,7 @@ KeepsMoments of source old new = (NeverSynced old new × (new.octets ≡ old.oct
 -- how `init` may end: done, after no items, or refused, or at a failure
 abbrev pub IsInitEnd : Ending → Type 0
 IsInitEnd (ending.Done count) = count ≡ 0
-IsInitEnd ending.Settings = ⊤
+IsInitEnd (ending.Settings refusal) = ⊤
 IsInitEnd ending.Input = ⊤
 IsInitEnd ending.Disk = ⊤
 IsInitEnd ending.Memory = ⊤
@@ -94,7 +89,7 @@ pub record Makes (of : Making) (old new : BoardView) (source : Option (List ℕ)
   -- each end has its cause
   pub formatted : end ≡ ending.Formatted → IsTrue new.tells → IsFormatted of.kinds old.octets
   pub is_formatted : IsTrue new.tells → IsFormatted of.kinds old.octets → (end ≡ ending.Formatted) ⊎ (end ≡ ending.Disk)
-  pub refused : end ≡ ending.Settings → GivesNone of source
+  pub refused : (refusal : SettingsRefusal) → end ≡ ending.Settings refusal → IsRefused of source refusal
   pub input : end ≡ ending.Input → Rose reads_before reads_after
   pub disk : end ≡ ending.Disk → Rose old.disk_faults new.disk_faults
   -- where it is done no call failed
@@ -111,11 +106,11 @@ pub record Inits (of : Making) (old new : Outside) (status : ℕ) : Type 0 where
   -- nothing is written but the last line
   pub alone : (text : List ℕ) → old.written ≡ Some text → new.written ≡ Some (text ++ part)
   pub issues_nothing : IsTrue new.board.tells → new.board.sent ≡ old.board.sent
-  -- where the file isn't formatted and the text gives no settings, that is answered, unless something failed or there was no memory
-  pub is_refused : IsTrue new.board.tells → (IsFormatted of.kinds old.board.octets → ⊥) → (text : List ℕ) → old.unread ≡ Some text → of.settings_of text ≡ None →
-      (end ≡ ending.Settings) ⊎ ((end ≡ ending.Input) ⊎ ((end ≡ ending.Disk) ⊎ (end ≡ ending.Memory)))
+  -- where the file isn't formatted and the text is refused, the reason is answered, unless something failed or there was no memory
+  pub is_refused : IsTrue new.board.tells → (IsFormatted of.kinds old.board.octets → ⊥) → (text : List ℕ) (refusal : SettingsRefusal) → old.unread ≡ Some text → of.settings_of text ≡ Err refusal →
+      (end ≡ ending.Settings refusal) ⊎ ((end ≡ ending.Input) ⊎ ((end ≡ ending.Disk) ⊎ (end ≡ ending.Memory)))
   -- where the file isn't formatted, the text is good and nothing fails, it ends with 0 or out of memory
-  pub complete : IsTrue new.board.tells → (IsFormatted of.kinds old.board.octets → ⊥) → (text settings : List ℕ) → old.unread ≡ Some text → of.settings_of text ≡ Some settings →
+  pub complete : IsTrue new.board.tells → (IsFormatted of.kinds old.board.octets → ⊥) → (text settings : List ℕ) → old.unread ≡ Some text → of.settings_of text ≡ Ok settings →
       (status ≡ 0) ⊎ ((status ≡ 10) ⊎ (Rose old.reads new.reads ⊎ (Rose old.board.disk_faults new.board.disk_faults ⊎ Rose old.writes new.writes)))
   -- at status 0 no count of failures of the disk, the source or the sink rose
   pub calm : status ≡ 0 → (new.board.disk_faults ≡ old.board.disk_faults) × (new.reads ≡ old.reads) × (new.writes ≡ old.writes)

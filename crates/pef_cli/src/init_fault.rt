@@ -1,19 +1,19 @@
 //! Why a state file isn't formatted.
 ghost use Rattle.std.specs.Prelude.{◌≡◌};
 ghost use Rattle.pef_cli.specs.declared.init_fault.InitFault.TheVariants.{Disk};
-ghost use Rattle.pef_cli.specs.Init.{fault_ending, fault_of, refusal_of};
+ghost use Rattle.pef_cli.specs.Init.{fault_ending, fault_of};
 
 use board_core::DiskFailed;
-use report_line::Ending;
-use script_text::{SettingsFault, TextFault};
+use report_line::{Ending, SettingsRefusal};
+use script_text::TextFault;
 use thiserror::Error;
 
 /// What keeps `init` from making the file.
 #[derive(Clone, Copy, Debug, PartialEq, Eq, Error)]
 pub enum InitFault {
-    /// The settings text is refused.
+    /// The settings text is refused, and why.
     #[error("the settings text is refused")]
-    Settings,
+    Settings(SettingsRefusal),
     /// The settings could not be read.
     #[error("the settings could not be read")]
     Input,
@@ -34,7 +34,7 @@ impl InitFault {
         ensures { result ≡ fault_ending self }
     {
         match self {
-            InitFault::Settings => Ending::Settings,
+            InitFault::Settings(refusal) => Ending::Settings(refusal),
             InitFault::Input => Ending::Input,
             InitFault::Disk => Ending::Disk,
             InitFault::Memory => Ending::Memory,
@@ -58,17 +58,6 @@ impl From<TextFault> for InitFault {
         match fault {
             TextFault::Source => InitFault::Input,
             TextFault::Memory => InitFault::Memory,
-        }
-    }
-}
-
-impl From<SettingsFault> for InitFault {
-    ghost from_gives = { λ refusal fault. fault ≡ refusal_of refusal };
-
-    fn from(fault: SettingsFault) -> InitFault {
-        match fault {
-            SettingsFault::Refused => InitFault::Settings,
-            SettingsFault::Memory => InitFault::Memory,
         }
     }
 }

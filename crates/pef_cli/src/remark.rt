@@ -19,11 +19,11 @@ pub enum Remark<'a> {
     #[error("{name}: {why}")]
     Unformatted { name: &'a str, why: Unformatted },
     /// The text in this file isn't a settings text of a controller.
-    #[error("{0}: expected the one line filter = \"...\", with 40 hexadecimal digits between the quotes")]
-    Filter(&'a str),
+    #[error("{0}: expected a TOML document with guid and agent, and no other keys than manufacturer, system, pet_port, oem1_port, oem2_port, control, actions, delay and filter")]
+    Controller(&'a str),
     /// The text in this file isn't a settings text of a console.
-    #[error("{0}: expected the one line ack_port = N, with N from 0 to 65535, or an empty file")]
-    Port(&'a str),
+    #[error("{0}: expected a TOML document with no other key than ack_port, a whole number from 0 to 65535")]
+    Console(&'a str),
     /// A call on what has this name failed.
     #[error("{name}: {failure}")]
     Failed { name: &'a str, failure: Failure },
@@ -117,8 +117,8 @@ fn unformatted<'a, B: Board>(
 // Which settings text was expected, where the form reads one.
 fn settings<'a>(asked: &Asked<'a>) -> Option<Remark<'a>> {
     match asked.form {
-        Form::Init => Some(Remark::Filter(asked.second)),
-        Form::InitConsole => Some(Remark::Port(asked.second)),
+        Form::Init => Some(Remark::Controller(asked.second)),
+        Form::InitConsole => Some(Remark::Console(asked.second)),
         Form::Run | Form::Receive | Form::List => None,
     }
 }

@@ -1,5 +1,6 @@
 // Calls of the program on objects in memory: what the files of each form are, what it leaves and says.
 mod again;
+mod alerts;
 mod captures;
 mod commands;
 mod console;
@@ -18,13 +19,15 @@ use board_core::{Act, MemBoard, MemSink, MemSource, Sent, Step};
 use std::alloc::{AllocError, Global};
 use std::process::Abort;
 
-const LINE: &str = "filter = \"80200010ffff04ff010400000000000000000000\"";
+// A controller's settings with an event filter.
+const SETTINGS: &str =
+    "guid = \"00112233-4455-6677-8899-aabbccddeeff\"\nagent = \"10.0.0.2\"\nfilter = \"80200010ffff04ff010400000000000000000000\"\n";
 
-// The header of a controller's file, the settings' defaults, the filter, and a closed gate.
+// The header of a controller's file, these settings with the defaults, and a closed gate.
 const MADE: [u8; 60] = [
     0xa5, 1, 55, 0, // mark, kind, settings length
-    0, 0, 0, 0, 0, 0, 0, 0, 0, 0, 0, 0, 0, 0, 0, 0, // system GUID
-    0, 0, 0, 0, // agent address
+    0, 0x11, 0x22, 0x33, 0x44, 0x55, 0x66, 0x77, 0x88, 0x99, 0xaa, 0xbb, 0xcc, 0xdd, 0xee, 0xff, // system GUID
+    10, 0, 0, 2, // agent address
     0, 0, 0, 0, // manufacturer ID
     0, 0, // system ID
     162, 0, 162, 0, 162, 0, // ports
@@ -35,9 +38,9 @@ const MADE: [u8; 60] = [
 
 // The same before its mark is written.
 const UNMARKED: [u8; 60] = [
-    0, 1, 55, 0, 0, 0, 0, 0, 0, 0, 0, 0, 0, 0, 0, 0, 0, 0, 0, 0, 0, 0, 0, 0, 0, 0, 0, 0, 0, 0, 162,
-    0, 162, 0, 162, 0, 1, 63, 0, 0x80, 0x20, 0, 0x10, 0xff, 0xff, 4, 0xff, 1, 4, 0, 0, 0, 0, 0, 0,
-    0, 0, 0, 0, 0,
+    0, 1, 55, 0, 0, 0x11, 0x22, 0x33, 0x44, 0x55, 0x66, 0x77, 0x88, 0x99, 0xaa, 0xbb, 0xcc, 0xdd,
+    0xee, 0xff, 10, 0, 0, 2, 0, 0, 0, 0, 0, 0, 162, 0, 162, 0, 162, 0, 1, 63, 0, 0x80, 0x20, 0,
+    0x10, 0xff, 0xff, 4, 0xff, 1, 4, 0, 0, 0, 0, 0, 0, 0, 0, 0, 0, 0,
 ];
 
 // A console's file, formatted.

@@ -1,6 +1,6 @@
 -- Worked examples of the definitions: requests, and the commands that they are.
-use Rattle.std.proofs.Common.{◌≡◌, ℕ, true, false, List, [], ◌∷◌, Some, None, Ok, Err, refl, replicate}
-use Rattle.pef_commands.specs.declared.command.Command.TheVariants.{SetPef, GetPef, SetLan, GetLan}
+use Rattle.std.proofs.Common.{◌≡◌, ℕ, true, false, List, [], ◌∷◌, ◌++◌, take, Some, None, Ok, Err, refl, replicate}
+use Rattle.pef_commands.specs.declared.command.Command.TheVariants.{SetPef, GetPef, SetLan, GetLan, Acknowledge}
 use Rattle.pef_commands.specs.Request.{Asked, request_of}
 use Rattle.pef_commands.specs.Parsing.{parsed}
 
@@ -27,3 +27,21 @@ pub requests :
     (request_of 0x3F 0xFF [] ≡ Some (asked 0x3F 0xFF [])) × (request_of 0x40 0x00 [] ≡ None)
     × (request_of 0x04 0x12 (replicate 64 0) ≡ Some (asked 0x04 0x12 (replicate 64 0))) × (request_of 0x04 0x12 (replicate 65 0) ≡ None)
 requests = (refl, refl, refl, refl)
+
+-- a fan's trap is acknowledged: sequence number 1, 116387200 seconds since 1998-01-01
+abbrev acknowledgement : List ℕ
+acknowledgement = 0x01 ∷ 0x00 ∷ 0x80 ∷ 0xED ∷ 0xEF ∷ 0x06 ∷ 0x20 ∷ 0x20 ∷ 0x30 ∷ 0x52 ∷ 0x10 ∷ 0x20 ∷ []
+
+pub acknowledgements :
+    (parsed (asked 0x04 0x17 acknowledgement) ≡ Ok (Acknowledge (record {
+      sequence = 1;
+      timestamp = 116387200;
+      event_source = 0x20;
+      device = 0x20;
+      sensor = 0x30;
+      event_data = 0x52 ∷ 0x10 ∷ 0x20 ∷ [];
+    })))
+    × (parsed (asked 0x04 0x17 (take 11 acknowledgement)) ≡ Err 0xC7)
+    × (parsed (asked 0x04 0x17 (acknowledgement ++ 0x00 ∷ [])) ≡ Err 0xC7)
+    × (parsed (asked 0x0C 0x17 acknowledgement) ≡ Err 0xC1)
+acknowledgements = (refl, refl, refl, refl)

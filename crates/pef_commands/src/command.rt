@@ -1,6 +1,7 @@
 //! The commands.
 
 use board_core::Bytes;
+use pet_body::PetAck;
 
 /// What a request asks for, with its numbers already cut to the bits that count.
 #[derive(Drop)]
@@ -30,4 +31,6 @@ pub enum Command {
         revision_only: bool,
         set: u8,
     },
+    /// PET Acknowledge: the fields of the trap that is acknowledged (IPMI 2.0, section 30.8).
+    Acknowledge(PetAck),
 }

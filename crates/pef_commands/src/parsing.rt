@@ -1,10 +1,12 @@
 //! Which command a request is.
 ghost use Rattle.std.specs.Prelude.{◌≡◌, ◌≤◌, length};
-ghost use Rattle.pef_commands.specs.Parsing.{parsed, set_pef as set_pef_of, get_pef as get_pef_of, set_lan as set_lan_of, get_lan as get_lan_of, asks_revision as asks_revision_of};
+ghost use Rattle.pef_commands.specs.Parsing.{parsed, set_pef as set_pef_of, get_pef as get_pef_of, set_lan as set_lan_of, get_lan as get_lan_of, acknowledge as acknowledge_of, asks_revision as asks_revision_of};
 
 use crate::command::Command;
 use crate::request::Request;
 use board_core::Bytes;
+use byteorder::{ByteOrder, LittleEndian};
+use pet_body::PetAck;
 
 /// Completion code: there is no such command.
 const INVALID_COMMAND: u8 = 0xC1;
@@ -25,6 +27,7 @@ pub fn parse(request: &Request) -> Result<Command, u8>
     match (request.netfn(), request.cmd()) {
         (SENSOR_EVENT, 0x12) => set_pef(payload),
         (SENSOR_EVENT, 0x13) => get_pef(payload),
+        (SENSOR_EVENT, 0x17) => acknowledge(payload),
         (TRANSPORT, 0x01) => set_lan(payload),
         (TRANSPORT, 0x02) => get_lan(payload),
         _ => Err(INVALID_COMMAND),
@@ -84,6 +87,22 @@ fn get_lan(payload: &[u8]) -> Result<Command, u8>
         revision_only: asks_revision(*channel),
         set: set % 16,
     })
+}
+
+fn acknowledge(payload: &[u8]) -> Result<Command, u8>
+    ensures { result ≡ acknowledge_of payload.now }
+{
+    if payload.len() != 12 {
+        return Err(LENGTH);
+    }
+    Ok(Command::Acknowledge(PetAck {
+        sequence: LittleEndian::read_u16(payload),
+        timestamp: LittleEndian::read_u32(&payload[2..]),
+        event_source: payload[6],
+        device: payload[7],
+        sensor: payload[8],
+        event_data: [payload[9], payload[10], payload[11]],
+    }))
 }
 
 /// Whether bit 7 of an octet asks for the revision alone.

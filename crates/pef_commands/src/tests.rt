@@ -3,6 +3,11 @@ use super::*;
 use std::alloc::{AllocError, Global};
 use std::test::Fail;
 
+/// A fan's trap is acknowledged: sequence number 1, 116387200 seconds since 1998-01-01.
+const ACKNOWLEDGEMENT: [u8; 12] = [
+    0x01, 0x00, 0x80, 0xED, 0xEF, 0x06, 0x20, 0x20, 0x30, 0x52, 0x10, 0x20,
+];
+
 /// A command as octets: its own number, its fields, and what is to be written; or the code alone.
 fn shown(alloc: Global, parsed: Result<Command, u8>) -> Result<Vec<u8>, AllocError> {
     let mut octets = Vec::new(alloc);
@@ -38,6 +43,13 @@ fn shown(alloc: Global, parsed: Result<Command, u8>) -> Result<Vec<u8>, AllocErr
                 set,
             },
         ) => octets.extend_from_slice(&[0x02, channel, parameter, u8::from(revision_only), set])?,
+        Ok(Command::Acknowledge(ack)) => {
+            octets.push(0x17)?;
+            octets.extend_from_slice(&ack.sequence.to_be_bytes())?;
+            octets.extend_from_slice(&ack.timestamp.to_be_bytes())?;
+            octets.extend_from_slice(&[ack.event_source, ack.device, ack.sensor])?;
+            octets.extend_from_slice(&ack.event_data)?;
+        }
     }
     Ok(octets)
 }
@@ -45,7 +57,7 @@ fn shown(alloc: Global, parsed: Result<Command, u8>) -> Result<Vec<u8>, AllocErr
 #[test]
 fn a_request_is_its_command_or_a_code(rt: HostRuntime) -> Result<(), Fail> {
     // Network function, command, data; and what is made of them.
-    let rows: [(u8, u8, &[u8], &[u8]); 22] = [
+    let rows: [(u8, u8, &[u8], &[u8]); 27] = [
         (0x04, 0x12, &[], &[0xC7]),
         (0x04, 0x12, &[0x05], &[0x12, 0x05]),
         (0x04, 0x12, &[0x05, 0x10], &[0x12, 0x05, 0x10]),
@@ -88,6 +100,19 @@ fn a_request_is_its_command_or_a_code(rt: HostRuntime) -> Result<(), Fail> {
             &[0x82, 0x92, 0xF4, 0xFF],
             &[0x02, 0x02, 0x92, 1, 0x04],
         ),
+        // An acknowledgement, whose numbers are shown with the most significant octet first.
+        (
+            0x04,
+            0x17,
+            &ACKNOWLEDGEMENT,
+            &[
+                0x17, 0x00, 0x01, 0x06, 0xEF, 0xED, 0x80, 0x20, 0x20, 0x30, 0x52, 0x10, 0x20,
+            ],
+        ),
+        (0x04, 0x17, &ACKNOWLEDGEMENT[..11], &[0xC7]),
+        (0x04, 0x17, &[0x01; 13], &[0xC7]),
+        (0x04, 0x17, &[], &[0xC7]),
+        (0x0C, 0x17, &ACKNOWLEDGEMENT, &[0xC1]),
         (0x04, 0x99, &[], &[0xC1]),
         (0x04, 0x01, &[0x01, 0x12], &[0xC1]),
         (0x0C, 0x12, &[0x00], &[0xC1]),

@@ -1,5 +1,6 @@
 -- What a deed changes in a controller.
 use Rattle.std.proofs.Common.{◌≡◌, ◌≢◌, ℕ, Bool, true, false, cond, eqb, List, Option, Some, None, refl, sym, ◌∙◌, ap, eqb-true}
+use Rattle.std.specs.Prelude.{option_map}
 use Rattle.std.proofs.Math.Path.{fun_ext}
 use Rattle.event_record.specs.declared.fault.RecordFault.{RecordFault}
 use Rattle.event_record.specs.declared.fault.LogFault.{LogFault}
@@ -16,11 +17,17 @@ use Rattle.pef_core.specs.declared.controller.Controller.{Controller}
 use Rattle.pef_core.specs.declared.item.Item.TheVariants.{Event, Command}
 use Rattle.pef_core.specs.declared.note.Note.{Note}
 use Rattle.pef_core.specs.declared.note.Note.TheVariants.{Nothing}
-use Rattle.pef_core.specs.Past.{Effect, SetPef, SetLan}
-use Rattle.pef_core.specs.Values.{Values}
+use Rattle.pef_core.specs.Past.{Effect, SetPef, SetLan, acked_in}
+use Rattle.pef_core.specs.declared.counts.Counts.{Counts}
+use Rattle.pef_core.specs.declared.counts.Counts.TheVariants.{Ack}
+use Rattle.pef_core.specs.declared.turn.Turn.{Turn}
+use Rattle.pef_core.specs.declared.work.Work.{Work}
+use Rattle.pet_body.specs.declared.ack.PetAck.{PetAck}
+use Rattle.pef_core.specs.Running.{Running}
+use Rattle.pef_core.specs.Values.{Now, Values, stamp_at}
 use Rattle.pef_core.specs.Deeds.{event_deed, item_deed}
 use Rattle.pef_core.specs.Replies.{answer, answer_to_write}
-use Rattle.pef_core.specs.After.{pef_with, lan_with, records_after, note_after, with_deed}
+use Rattle.pef_core.specs.After.{pef_with, lan_with, records_after, note_after, begins, counted_now, moved_by, with_deed}
 use Rattle.pef_core.specs.View.{shown}
 
 event_changes : (bad : Option RecordFault) (full : Option LogFault) (event : List ℕ) (v : Values)
@@ -63,13 +70,55 @@ pef_stays code w values = accepted code (SetLan w) pef_with (λ x. refl) values 
 pub lan_stays : (code : ℕ) (w : Write) (values : lan.Tables) → values ≡ lan_with (answer_to_write code (SetPef w)).effect values
 lan_stays code w values = accepted code (SetPef w) lan_with (λ x. refl) values values (λ zero. refl) (λ other. refl)
 
--- a command's reply, and what it wrote
+-- a write acknowledges nothing
+pub pef_acks_none : (code : ℕ) (w : Write) → None ≡ acked_in (answer_to_write code (SetPef w)).effect
+pef_acks_none code w = by (eqb code 0)
+  where
+    by : (b : Bool) → None ≡ acked_in (cond b (SetPef w) (answer_to_write 1 (SetPef w)).effect)
+    by true = refl
+    by false = refl
+
+pub lan_acks_none : (code : ℕ) (w : lan.Write) → None ≡ acked_in (answer_to_write code (SetLan w)).effect
+lan_acks_none code w = by (eqb code 0)
+  where
+    by : (b : Bool) → None ≡ acked_in (cond b (SetLan w) (answer_to_write 1 (SetLan w)).effect)
+    by true = refl
+    by false = refl
+
+-- a command's reply, and what it wrote, before what it acknowledges
+abbrev pub replied : Controller → Asked → Values
+replied c asked = record (shown c) {
+  pef = pef_with (answer (tables c.config) (kept c.lan) asked).effect (tables c.config);
+  lan = lan_with (answer (tables c.config) (kept c.lan) asked).effect (kept c.lan);
+  note = Nothing;
+  reply = Some (answer (tables c.config) (kept c.lan) asked).octets;
+}
+
 pub command_shows : (c : Controller) (config : Config) (kept_lan : Lan) (octets : List ℕ) (asked : Asked)
     → octets ≡ (answer (tables c.config) (kept c.lan) asked).octets
     → tables config ≡ pef_with (answer (tables c.config) (kept c.lan) asked).effect (tables c.config)
     → kept kept_lan ≡ lan_with (answer (tables c.config) (kept c.lan) asked).effect (kept c.lan)
-    → shown (record c { config = config; lan = kept_lan; note = Nothing; reply = Some octets }) ≡ with_deed (item_deed (shown c) (Command asked)) (shown c)
+    → shown (record c { config = config; lan = kept_lan; note = Nothing; reply = Some octets }) ≡ replied c asked
 command_shows c config kept_lan octets asked octets_are pef_is lan_is =
     ap (λ x. record (shown c) { pef = x; lan = kept kept_lan; note = Nothing; reply = Some octets }) pef_is
-    ∙ ap (λ x. record (shown c) { pef = pef_with (answer (tables c.config) (kept c.lan) asked).effect (tables c.config); lan = x; note = Nothing; reply = Some octets }) lan_is
-    ∙ ap (λ x. record (shown c) { pef = pef_with (answer (tables c.config) (kept c.lan) asked).effect (tables c.config); lan = lan_with (answer (tables c.config) (kept c.lan) asked).effect (kept c.lan); note = Nothing; reply = Some x }) octets_are
+    ∙ ap (λ x. record (replied c asked) { lan = x; reply = Some octets }) lan_is
+    ∙ ap (λ x. record (replied c asked) { reply = Some x }) octets_are
+
+-- What a command acknowledged counts for the job that runs.
+pub answered_shows : (c : Controller) (asked : Asked) (shown_then : Values) (ack : Option PetAck)
+    → ack ≡ acked_in (answer (tables c.config) (kept c.lan) asked).effect
+    → shown_then ≡ record (replied c asked) { now = moved_by (option_map Ack ack) (stamp_at c.ticks) (shown c).now }
+    → shown_then ≡ with_deed (item_deed (shown c) (Command asked)) (shown c)
+answered_shows c asked shown_then ack acks is = is ∙ ap (λ a. record (replied c asked) { now = moved_by (option_map Ack a) (stamp_at c.ticks) (shown c).now }) acks
+
+-- a controller for whose job something counts now
+abbrev pub with_count : Counts → Controller → Values
+with_count counts c = record (shown c) { now = counted_now counts (stamp_at c.ticks) c.running (shown c).now }
+
+abbrev pub at_now : Now → Values → Values
+at_now now v = record v { now = now }
+
+-- what begins is the same whatever ran before
+pub begins_alike : (work : Work) (stamp : ℕ) (turn : Option Turn) (before : Option Running) (n : Now) → begins work stamp turn (record n { running = before }) ≡ begins work stamp turn n
+begins_alike work stamp None before n = refl
+begins_alike work stamp (Some turn) before n = refl

@@ -1,73 +1,177 @@
--- An outcome leaves fewer steps, whatever stood before it.
-use Rattle.std.proofs.Common.{◌≡◌, ℕ, ◌+◌, ◌-◌, ◌*◌, ◌<◌, ◌≤◌, Bool, true, false, cond, List, [], ◌∷◌, length, drop, Option, Some, None, refl, sym, ap, subst, arith, length-drop}
-use Rattle.std.specs.Prelude.{not, ◌&&◌, is_some}
-use Rattle.std.proofs.lemmas.Bool.{and_parts}
+-- An outcome leaves fewer steps, and a job that begins has 18 at most.
+use Rattle.std.proofs.Common.{◌≡◌, ℕ, ◌+◌, ◌-◌, ◌*◌, ◌<◌, ◌≤◌, min, Bool, true, false, cond, nat_lt, List, [], ◌∷◌, length, drop, Option, Some, None, refl, sym, ◌∙◌, ap, subst, arith, length-drop, length-take}
+use Rattle.std.specs.Prelude.{◌&&◌, ◌==◌, not, is_some}
+use Rattle.std.proofs.Math.Nat.{zero-div}
+use Rattle.std.proofs.lemmas.Bool.{ltb-true, and_parts}
+use Rattle.std.proofs.lemmas.List.{length-map}
+use Rattle.std.specs.List.{prefix_len}
+use Rattle.std.specs.Option.{IsSome}
+use Rattle.board_core.specs.declared.step.Act.{Act}
 use Rattle.board_core.specs.declared.step.Told.{Told}
-use Rattle.pef_config.specs.Places.{Tables, our_sizes}
+use Rattle.lan_dest.specs.Attempts.{sends, IsDue}
+use Rattle.policy_walk.specs.declared.stop.Stop.{Stop}
+use Rattle.policy_walk.specs.First.{first_tried}
+use Rattle.policy_walk.specs.Tried.{Wanted, Any, is_tried, passed}
+use Rattle.pef_match.specs.declared.target.Target.{Target}
 use Rattle.pef_match.specs.Parts.{Parts}
-use Rattle.pef_match.specs.Job.{job}
-use Rattle.std.specs.Option.{option_map, IsSome}
-use Rattle.pef_engine.specs.declared.entry.Entry.{Entry}
-use Rattle.pef_engine.specs.declared.entry.Entry.TheVariants.{Item as Taken, Outcome}
-use Rattle.pef_engine.specs.Rules.{IsOutcome}
-use Rattle.pef_core.specs.declared.item.Item.{Item}
-use Rattle.pef_core.specs.Deeds.{deed}
-use Rattle.pef_core.specs.Histories.{running_step}
+use Rattle.pef_match.proofs.Sets.{all_within}
+use Rattle.pef_core.specs.declared.counts.Counts.TheVariants.{Heard}
 use Rattle.pef_core.specs.declared.part.Part.{Part}
-use Rattle.pef_core.specs.declared.part.Part.TheVariants.{Acting, Calling}
-use Rattle.pef_core.specs.declared.running.Running.{Running}
+use Rattle.pef_core.specs.declared.part.Part.TheVariants.{Acting, Alerting, Calling}
+use Rattle.pef_core.specs.declared.own.Own.{Own}
+use Rattle.pef_core.specs.declared.turn.Turn.{Turn}
+use Rattle.pef_core.specs.declared.turn.Turn.TheVariants.{ToAct, ToAlert, ToCall}
+use Rattle.pef_core.specs.declared.work.Work.{Work}
 use Rattle.pef_core.specs.Past.{WasTold}
-use Rattle.pef_core.specs.Undertaking.{part_at, stage_after}
-use Rattle.pef_core.specs.Course.{is_enabled}
-use Rattle.pef_core.specs.Values.{Now, Values}
-use Rattle.pef_core.specs.After.{goes_on, part_behind, first_part, begin_with, begin_jobs_now, begun, with_deed, with_next_job, values_after}
-use Rattle.pef_core.specs.declared.controller.Controller.{Controller}
-use Rattle.pef_core.specs.View.{shown, AllowedBy}
-use Rattle.pef_core.specs.Left.{part_left, now_left, left}
+use Rattle.pef_core.specs.Course.{Force, is_enabled}
+use Rattle.pef_core.specs.Values.{Now, Values, stamp_at}
+use Rattle.pef_core.specs.Undertaking.{one_set, set_at, stops_at, target_at, first_stage, turn_in, turn_at}
+use Rattle.pef_core.specs.Running.{Running, IsOpenPart, MayCount}
+use Rattle.pef_core.specs.After.{part_after, result_after, turn_from, turn_or_next, turn_behind, first_turn, part_begun, begins, progress, progress_by, now_with, counted_now, work_of, begin_with, begin_jobs_now, force_of, begun, with_deed, with_next_job}
+use Rattle.pef_core.proofs.TurnOrder.{starts}
+use Rattle.pef_core.specs.Histories.{is_due, trap_step, part_step, running_step}
+use Rattle.pef_core.specs.Left.{oem_left, part_left, turn_left, progress_left, now_left, left}
+
+-- the place of a stop that is tried, in a list that begins at this place
+first_tried_within : (wanted : Wanted) (succeeded : Bool) (place : ℕ) (stops : List Stop) (next : ℕ) → first_tried wanted succeeded place stops ≡ Some next
+    → (place ≤ next) × (next < place + length stops)
+first_tried_within wanted succeeded place [] next is = absurd (cc is)
+first_tried_within wanted succeeded place (stop ∷ stops) next is = by (is_tried wanted succeeded stop) is (λ is. first_tried_within (passed wanted stop) succeeded (place + 1) stops next is)
+  where
+    by : (b : Bool) → cond b (Some place) (first_tried (passed wanted stop) succeeded (place + 1) stops) ≡ Some next
+        → (first_tried (passed wanted stop) succeeded (place + 1) stops ≡ Some next → (place + 1 ≤ next) × (next < place + 1 + length stops))
+        → (place ≤ next) × (next < place + length (stop ∷ stops))
+    by true some later = let same : place ≡ next = cc some in (omega (arith, same), omega (arith, same))
+    by false some later = let l = later some in (omega (arith, l.0), omega (arith, l.1))
+
+one_set_within : (targets : List Target) → length (one_set targets) ≤ length targets
+one_set_within [] = omega arith
+one_set_within (target ∷ targets) =
+    let n = prefix_len (λ other. other.policy_number == target.policy_number) (target ∷ targets) in
+    omega (arith, length-take n (target ∷ targets))
+
+pub set_within : (targets : List Target) (first : ℕ) → length (set_at targets first) ≤ length targets - first
+set_within targets first = omega (arith, one_set_within (drop first targets), length-drop first targets)
+
+stops_are : (targets : List Target) (first : ℕ) → length (stops_at targets first) ≡ length (set_at targets first)
+stops_are targets first = length-map (set_at targets first) (λ t. t.stop)
+
+-- the target of a turn is among them
+pub turn_within : (targets : List Target) (first place : ℕ) → first ≤ length targets → place < length (set_at targets first) → first + place < length targets
+turn_within targets first place from within = omega (arith, set_within targets first, from, within)
+
+module _ (job : Parts) where
+  abbrev all : ℕ
+  all = length job.targets
+
+  calls_left : (first : ℕ) → turn_left job (turn_in job first None) ≤ oem_left job
+  calls_left first = by job.oem
+    where
+      by : (b : Bool) → turn_left job (cond b (Some ToCall) None) ≤ cond b 1 0
+      by true = omega arith
+      by false = omega arith
+
+  from_left : (first : ℕ) → turn_left job (turn_from job first) ≤ all - first + oem_left job
+  from_left first = by (nat_lt first all) refl
+    where
+      by : (b : Bool) → nat_lt first all ≡ b → turn_left job (cond b (Some (ToAlert first 0)) (turn_in job first None)) ≤ all - first + oem_left job
+      by true is = omega (arith, ltb-true first all is)
+      by false is = omega (arith, calls_left first)
+
+  behind_left : (first place : ℕ) (result : Bool) → first ≤ all → place < length (set_at job.targets first)
+      → turn_left job (turn_or_next job first (first_tried Any result (place + 1) (drop (place + 1) (stops_at job.targets first)))) ≤ all - (first + place + 1) + oem_left job
+  behind_left first place result from within = by (first_tried Any result (place + 1) (drop (place + 1) (stops_at job.targets first))) refl
+    where
+      by : (o : Option ℕ) → first_tried Any result (place + 1) (drop (place + 1) (stops_at job.targets first)) ≡ o → turn_left job (turn_or_next job first o) ≤ all - (first + place + 1) + oem_left job
+      by None is = omega (arith, from_left (first + length (set_at job.targets first)), within)
+      by (Some next) is =
+          let bounds = first_tried_within Any result (place + 1) (drop (place + 1) (stops_at job.targets first)) next is in
+          omega (arith, bounds.0, bounds.1, length-drop (place + 1) (stops_at job.targets first), stops_are job.targets first, set_within job.targets first, from, within)
+
+  -- behind a part whose step is due
+  ends_with_less : (part : Part) (told : Told) (result : Bool) → IsOpenPart job.targets part → MayCount (Heard told) part → turn_left job (turn_behind job part result) < part_left job part
+  ends_with_less (Acting act) told result is_open due = omega (arith, from_left 0)
+  ends_with_less Calling told result is_open due = omega arith
+  ends_with_less (Alerting alert) told result is_open due = omega (arith, due, behind_left alert.first alert.place result is_open.first is_open.within)
+
+  -- a part whose transmission was due goes on
+  goes_on_with_less : (part : Part) (told : Told) → MayCount (Heard told) part → result_after (Heard told) job.event part ≡ None → part_left job (part_after (Heard told) job.event part) < part_left job part
+  goes_on_with_less (Acting act) told due none = absurd (cc none)
+  goes_on_with_less Calling told due none = absurd (cc none)
+  goes_on_with_less (Alerting alert) told due none = omega (arith, due)
+
+-- An outcome leaves fewer steps.
+pub progress_is_less : (r : Running) (told : Told) → IsOpenPart r.work.job.targets r.part → MayCount (Heard told) r.part
+    → progress_left (progress (Heard told) r) < part_left r.work.job r.part
+progress_is_less r told is_open due = by (result_after (Heard told) r.work.job.event r.part) refl
+  where
+    by : (o : Option Bool) → result_after (Heard told) r.work.job.event r.part ≡ o → progress_left (progress_by (Heard told) r o) < part_left r.work.job r.part
+    by None is = goes_on_with_less r.work.job r.part told due is
+    by (Some result) is = ends_with_less r.work.job r.part told result is_open due
+
+-- a part that begins has the steps of its turn before it
+part_begun_left : (job : Parts) (sequence stamp : ℕ) (turn : Turn) → part_left job (part_begun job sequence stamp turn) ≡ turn_left job (Some turn)
+part_begun_left job sequence stamp (ToAct act) = refl
+part_begun_left job sequence stamp ToCall = refl
+part_begun_left job sequence stamp (ToAlert first place) =
+    ap (λ k. 1 + min (target_at job.targets first place).to.retries k - 0 + (length job.targets - (first + place + 1) + oem_left job)) (zero-div (target_at job.targets first place).to.wait)
+    ∙ none_waits (target_at job.targets first place).to.retries (length job.targets - (first + place + 1) + oem_left job)
+  where
+    none_waits : (retries rest : ℕ) → 1 + min retries 0 - 0 + rest ≡ 1 + rest
+    none_waits retries rest = omega arith
 
 abbrev left_at : Now → ℕ → ℕ
 left_at n records = now_left n.running n.mark records
 
-part_is_small : (j : Parts) (part : Part) → part_left j part ≤ 2
-part_is_small j (Acting act) = by j.oem
+begins_left : (work : Work) (stamp : ℕ) (turn : Option Turn) (n : Now) (records : ℕ) → left_at (begins work stamp turn n) records ≡ turn_left work.job turn + 18 * (records - work.number)
+begins_left work stamp None n records = omega arith
+begins_left work stamp (Some turn) n records = ap (λ k. k + 18 * (records - work.number)) (part_begun_left work.job n.sequence stamp turn)
+
+counted_left : (told : Told) (stamp : ℕ) (r : Running) (n : Now) (records : ℕ) → IsOpenPart r.work.job.targets r.part → MayCount (Heard told) r.part
+    → left_at (counted_now (Heard told) stamp (Some r) n) records < left_at (record n { running = Some r }) records
+counted_left told stamp r n records is_open due = by (result_after (Heard told) r.work.job.event r.part) refl
   where
-    by : (b : Bool) → 1 + cond b 1 0 ≤ 2
-    by true = omega arith
-    by false = omega arith
-part_is_small j Calling = omega arith
+    by : (o : Option Bool) → result_after (Heard told) r.work.job.event r.part ≡ o → left_at (now_with stamp (progress_by (Heard told) r o) n) records < left_at (record n { running = Some r }) records
+    by None is = omega (arith, goes_on_with_less r.work.job r.part told due is)
+    by (Some result) is =
+        omega (arith, begins_left r.work stamp (turn_behind r.work.job r.part result) n records, ends_with_less r.work.job r.part told result is_open due)
 
-part_is_some : (j : Parts) (part : Part) → 1 ≤ part_left j part
-part_is_some j (Acting act) = omega arith
-part_is_some j Calling = omega arith
+-- the step that is due had an outcome
+pub outcome_leaves_fewer : (told : Told) (v : Values) (r : Running) → v.now.running ≡ Some r → IsOpenPart r.work.job.targets r.part → MayCount (Heard told) r.part → left (with_deed (WasTold told) v) < left v
+outcome_leaves_fewer told v r runs is_open due =
+    subst (λ o. left (with_deed (WasTold told) (record v { now = record v.now { running = o } })) < now_left o v.now.mark (length v.records)) (sym runs)
+    (counted_left told (stamp_at v.ticks) r (record v.now { running = Some r }) (length v.records) is_open due)
 
--- a job that goes on has fewer steps before it
-behind_is_less : (j : Parts) (part next : Part) → part_at j (stage_after part) ≡ Some next → part_left j next < part_left j part
-behind_is_less j Calling next is = absurd (cc is)
-behind_is_less j (Acting act) next is = by j.oem is
+first_left : (job : Parts) → turn_left job (first_turn job) ≤ 1 + (length job.targets + oem_left job)
+first_left job = by job.act
   where
-    by : (b : Bool) → cond b (Some Calling) None ≡ Some next → part_left j next < 1 + cond b 1 0
-    by false some = absurd (cc some)
-    by true some = let same : Calling ≡ next = cc some in subst (λ p. part_left j p < 2) same (omega arith)
+    by : (act : Option Act) → turn_left job (turn_at job (first_stage act)) ≤ 1 + (length job.targets + oem_left job)
+    by (Some act) = omega arith
+    by None = subst (λ t. turn_left job t ≤ 1 + (length job.targets + oem_left job)) (sym (starts job 0)) (omega (arith, from_left job 0))
 
-goes_on_is_less : (r : Running) (mark records : ℕ) (o : Option Part) → part_behind r ≡ o → left_at (goes_on r mark o) records < now_left (Some r) mark records
-goes_on_is_less r mark records None is = omega (arith, part_is_some r.job r.part)
-goes_on_is_less r mark records (Some next) is = omega (arith, behind_is_less r.job r.part next is)
+one_at_most : (b : Bool) → cond b 1 0 ≤ 1
+one_at_most true = omega arith
+one_at_most false = omega arith
 
--- the jobs of so many records have at most two steps each
-begun_is_small : (tables : Tables) (events : List (List ℕ)) (mark records : ℕ) → length events ≡ records - mark → left_at (begin_jobs_now tables events mark) records ≤ 2 * length events
-begun_is_small tables [] mark records is = omega (arith, is)
-begun_is_small tables (event ∷ events) mark records is = by (begun_is_small tables events (mark + 1) records (omega (arith, is))) (first_part j)
-  where
-    j : Parts
-    j = job our_sizes tables event
+-- a job has 18 steps at most
+module _ (f : Force) (stamp : ℕ) where
+  work_is_small : (number : ℕ) (event : List ℕ) (turn : Option Turn) → first_turn (work_of f number event).job ≡ turn → turn_left (work_of f number event).job turn ≤ 18
+  work_is_small number event turn is =
+      let j = (work_of f number event).job in
+      let first : turn_left j turn ≤ 1 + (length j.targets + oem_left j) = subst (λ t. turn_left j t ≤ 1 + (length j.targets + oem_left j)) is (first_left j) in
+      omega (arith, first, one_at_most j.oem, all_within f.pef f.lan f.own.ports event)
 
-    fewer : length events ≡ records - (mark + 1)
-    fewer = omega (arith, is)
+  begun_is_small : (events : List (List ℕ)) (n : Now) (records : ℕ) → n.running ≡ None → length events ≡ records - n.mark → left_at (begin_jobs_now f stamp events n) records ≤ 18 * length events
+  begun_is_small [] n records idle is = omega (arith, is, ap (λ o. now_left o n.mark records) idle)
+  begun_is_small (event ∷ events) n records idle is = by (λ n idle is. begun_is_small events n records idle is) (first_turn work.job) refl
+    where
+      work : Work
+      work = work_of f (n.mark + 1) event
 
-    by : left_at (begin_jobs_now tables events (mark + 1)) records ≤ 2 * length events
-        → (o : Option Part) → left_at (begin_with (begin_jobs_now tables events (mark + 1)) mark j o) records ≤ 2 * length (event ∷ events)
-    by others None = omega (arith, others)
-    by others (Some part) = omega (arith, part_is_small j part, fewer)
+      by : ((n : Now) → n.running ≡ None → length events ≡ records - n.mark → left_at (begin_jobs_now f stamp events n) records ≤ 18 * length events)
+          → (o : Option Turn) → first_turn work.job ≡ o → left_at (begin_with (begin_jobs_now f stamp events) work stamp o n) records ≤ 18 * length (event ∷ events)
+      by others None first = omega (arith, others (record n { mark = work.number }) idle (omega (arith, is)))
+      by others (Some turn) first = omega (arith, begins_left work stamp (Some turn) n records, work_is_small (n.mark + 1) event (Some turn) first, is)
 
 none_is : (o : Option Running) → is_some o ≡ false → o ≡ None
 none_is None is = refl
@@ -78,29 +182,31 @@ not_true true is = absurd (cc is)
 not_true false is = refl
 
 -- a job that begins takes no more steps than were left
-begins_within : (v : Values) → left (with_next_job v) ≤ left v
+pub begins_within : (v : Values) → left (with_next_job v) ≤ left v
 begins_within v = by (not (is_some v.now.running) && is_enabled v.pef) refl
   where
     by : (b : Bool) → (not (is_some v.now.running) && is_enabled v.pef) ≡ b → left (cond b (begun v) v) ≤ left v
     by false is = omega arith
     by true is =
         let idle : v.now.running ≡ None = none_is v.now.running (not_true (is_some v.now.running) (and_parts (not (is_some v.now.running)) (is_enabled v.pef) is).0) in
-        let small = begun_is_small v.pef (drop v.now.mark v.records) v.now.mark (length v.records) (length-drop v.now.mark v.records) in
-        let free : left v ≡ 2 * (length v.records - v.now.mark) = ap (λ o. now_left o v.now.mark (length v.records)) idle in
+        let small = begun_is_small (force_of v) (stamp_at v.ticks) (drop v.now.mark v.records) v.now (length v.records) idle (length-drop v.now.mark v.records) in
+        let free : left v ≡ 18 * (length v.records - v.now.mark) = ap (λ o. now_left o v.now.mark (length v.records)) idle in
         omega (arith, small, free, length-drop v.now.mark v.records)
 
-outcome_leaves_fewer : (told : Told) (v : Values) (r : Running) → v.now.running ≡ Some r → left (values_after (WasTold told) v) < left v
-outcome_leaves_fewer told v r runs =
-    let heard : left (with_deed (WasTold told) v) < left v = subst (λ o. left (with_deed (WasTold told) (record v { now = record { running = o; mark = v.now.mark } })) < now_left o v.now.mark (length v.records)) (sym runs) (goes_on_is_less r v.now.mark (length v.records) (part_behind r) refl) in
-    omega (arith, heard, begins_within (with_deed (WasTold told) v))
+-- what is due while nothing runs, and while this part is open
+pub none_due : (own : Own) (o : Option Running) → o ≡ None → IsSome (running_step own o) → ⊥
+none_due own None is some = cc
+none_due own (Some r) is some = cc is
 
-none_due : IsSome (option_map running_step None) → ⊥
-none_due some = cc
-
-pub leaves_fewer : (c : Controller) (v : Values) (entry : Entry Item) → IsOutcome entry → AllowedBy c entry → v ≡ values_after (deed (shown c) entry) (shown c) → left v < left (shown c)
-leaves_fewer c v (Taken item) outcome allowed is = absurd outcome
-leaves_fewer c v (Outcome told) outcome allowed is = by c.running refl
+part_hears : (own : Own) (told : Told) (work : Work) (part : Part) → IsSome (part_step own work part) → MayCount (Heard told) part
+part_hears own told work (Acting act) some = tt
+part_hears own told work Calling some = tt
+part_hears own told work (Alerting alert) some = by (is_due alert.attempt) refl some
   where
-    by : (o : Option Running) → c.running ≡ o → left v < left (shown c)
-    by None none = absurd (none_due (subst (λ o. IsSome (option_map running_step o)) none allowed))
-    by (Some r) some = subst (λ x. left x < left (shown c)) (sym is) (outcome_leaves_fewer told (shown c) r some)
+    by : (b : Bool) → is_due alert.attempt ≡ b → IsSome (cond b (Some (trap_step own work alert (target_at work.job.targets alert.first alert.place))) None) → IsDue alert.attempt
+    by true is some = ltb-true alert.attempt.outcomes (sends alert.attempt.wait alert.attempt.retries alert.attempt.ticks) is
+    by false is some = absurd cc
+
+pub may_hear : (own : Own) (told : Told) (o : Option Running) (r : Running) → o ≡ Some r → IsSome (running_step own o) → MayCount (Heard told) r.part
+may_hear own told None r is some = absurd (cc is)
+may_hear own told (Some s) r is some = let same : s ≡ r = cc is in subst (λ r. MayCount (Heard told) r.part) same (part_hears own told s.work s.part some)

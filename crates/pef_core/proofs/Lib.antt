@@ -1,8 +1,12 @@
+pub mod AlertExamples
+pub mod TurnOrder
 pub mod Standing
 pub mod LeftSteps
 pub mod Deeds
 pub mod Beginning
 pub mod Saying
-pub mod Decoding
-pub mod Examples
+pub mod LineWords
 pub mod Promises
+pub mod Retries
+pub mod Bound
+pub mod Decoding

@@ -1,19 +1,35 @@
 -- What stands after one more deed, by what stood before it: the controller goes on by these. That they agree with the past is proved
 -- (`standing_next`).
-use Rattle.std.specs.Prelude.{ℕ, ◌+◌, not, ◌&&◌, List, [], ◌∷◌, ◌++◌, drop, Option, Some, None, is_some, if◌then◌else◌}
+use Rattle.std.specs.Prelude.{ℕ, ◌+◌, ◌%◌, Bool, not, ◌&&◌, nat_lt, ◌==◌, List, [], ◌∷◌, ◌++◌, length, drop, ⊤, Option, Some, None, IfSome, is_some, if◌then◌else◌}
 use Rattle.event_record.specs.Fields.{record_id}
+use Rattle.lan_dest.specs.Attempts.{Counted, verdict, begun as begun_attempt, heard, answered, is_done}
+use Rattle.lan_dest.specs.declared.destination.Destination.{Destination}
 use Rattle.lan_dest.specs.Parameters as lan
+use Rattle.alert_trap.specs.Acknowledgement.{ack_awaited}
+use Rattle.pet_body.specs.declared.ack.PetAck.{PetAck}
+use Rattle.policy_walk.specs.First.{first_tried}
+use Rattle.policy_walk.specs.Tried.{Any}
 use Rattle.pef_config.specs.Places.{Tables, our_sizes, last_or, written}
 use Rattle.pef_match.specs.Parts.{Parts}
 use Rattle.pef_match.specs.Job.{job}
+use Rattle.pef_core.specs.declared.counts.Counts.{Counts}
+use Rattle.pef_core.specs.declared.counts.Counts.TheVariants.{Second, Ack, Heard}
 use Rattle.pef_core.specs.declared.note.Note.{Note}
 use Rattle.pef_core.specs.declared.note.Note.TheVariants.{Added, Nothing}
+use Rattle.pef_core.specs.declared.part.Alerting.{Alerting as Alert}
 use Rattle.pef_core.specs.declared.part.Part.{Part}
-use Rattle.pef_core.specs.declared.running.Running.{Running}
-use Rattle.pef_core.specs.Past.{Effect, Unchanged, SetPef, SetLan, Deed, Logged, Dropped, Replied, WasTold}
-use Rattle.pef_core.specs.Undertaking.{first_stage, part_at, stage_after}
-use Rattle.pef_core.specs.Course.{is_enabled}
-use Rattle.pef_core.specs.Values.{Now, Values}
+use Rattle.pef_core.specs.declared.part.Part.TheVariants.{Acting, Alerting, Calling}
+use Rattle.pef_core.specs.declared.progress.Progress.{Progress}
+use Rattle.pef_core.specs.declared.progress.Progress.TheVariants.{GoesOn, Ended}
+use Rattle.pef_core.specs.declared.turn.Turn.{Turn}
+use Rattle.pef_core.specs.declared.turn.Turn.TheVariants.{ToAct, ToAlert, ToCall}
+use Rattle.pef_core.specs.declared.work.Work.{Work}
+use Rattle.pef_core.specs.Counting.{same_ack}
+use Rattle.pef_core.specs.Past.{Effect, Unchanged, SetPef, SetLan, Deed, Logged, Dropped, Replied, Ticked, WasTold, counts_of}
+use Rattle.pef_core.specs.Undertaking.{set_at, stops_at, target_at, first_stage, turn_in, turn_at}
+use Rattle.pef_core.specs.Course.{Force, guid_by, is_enabled}
+use Rattle.pef_core.specs.Running.{Running, IsTurn}
+use Rattle.pef_core.specs.Values.{Now, Values, stamp_at}
 
 abbrev pub effect_of : Deed → Effect
 effect_of (Replied octets effect) = effect
@@ -31,6 +47,10 @@ abbrev pub records_after : Deed → List (List ℕ) → List (List ℕ)
 records_after (Logged event) records = records ++ event ∷ []
 records_after deed records = records
 
+abbrev pub ticks_after : Deed → ℕ → ℕ
+ticks_after Ticked ticks = (ticks + 1) % 4294967296
+ticks_after deed ticks = ticks
+
 abbrev pub note_after : Deed → Note → Note
 note_after (Logged event) before = Added (record_id event)
 note_after (Dropped why) before = why
@@ -42,52 +62,127 @@ reply_after (Replied octets effect) before = Some octets
 reply_after (WasTold told) before = before
 reply_after deed before = None
 
-abbrev pub stands_at : Option Running → ℕ → Now
-stands_at running mark = record { running = running; mark = mark }
+-- one second more for an alert, whose seconds count from its first outcome on; an acknowledgement; an outcome
+abbrev pub attempt_after : Counts → PetAck → Counted → Counted
+attempt_after Second wanted attempt = record attempt { ticks = if attempt.outcomes == 0 then 0 else attempt.ticks + 1 }
+attempt_after (Ack ack) wanted attempt = if same_ack ack wanted then answered attempt else attempt
+attempt_after (Heard told) wanted attempt = heard told attempt
 
--- a job that goes on with this part, or is over
-abbrev pub goes_on : Running → ℕ → Option Part → Now
-goes_on r mark None = stands_at None r.number
-goes_on r mark (Some part) = stands_at (Some (record r { part = part })) mark
+abbrev pub alert_after : Counts → List ℕ → Alert → Alert
+alert_after counts event alert = record alert { attempt = attempt_after counts (ack_awaited alert.sequence (Some event)) alert.attempt }
 
-abbrev pub part_behind : Running → Option Part
-part_behind r = part_at r.job (stage_after r.part)
+abbrev pub outcome_of : Counts → Option Bool
+outcome_of (Heard told) = Some (is_done told)
+outcome_of counts = None
 
-abbrev pub heard_now : Option Running → ℕ → Now
-heard_now None mark = stands_at None mark
-heard_now (Some r) mark = goes_on r mark (part_behind r)
+-- the part that is open with what counts now, and how it ends then
+abbrev pub part_after : Counts → List ℕ → Part → Part
+part_after counts event (Alerting alert) = Alerting (alert_after counts event alert)
+part_after counts event part = part
 
-abbrev pub moved_now : Deed → Now → Now
-moved_now (WasTold told) n = heard_now n.running n.mark
-moved_now deed n = n
+abbrev pub result_after : Counts → List ℕ → Part → Option Bool
+result_after counts event (Alerting alert) = verdict (alert_after counts event alert).attempt
+result_after counts event part = outcome_of counts
 
-abbrev pub first_part : Parts → Option Part
-first_part job = part_at job (first_stage job.act)
+-- the turn behind a part of a job: of an alert the next of its set, or the first of the next set, or the OEM action
+abbrev pub turn_from : Parts → ℕ → Option Turn
+turn_from job first = if nat_lt first (length job.targets) then Some (ToAlert first 0) else turn_in job first None
 
--- the job of the record behind the mark runs, where it has a part
-abbrev pub begin_with : Now → ℕ → Parts → Option Part → Now
-begin_with later mark job None = later
-begin_with later mark job (Some part) = stands_at (Some (record { number = mark + 1; job = job; part = part })) mark
+abbrev pub turn_or_next : Parts → ℕ → Option ℕ → Option Turn
+turn_or_next job first (Some place) = Some (ToAlert first place)
+turn_or_next job first None = turn_from job (first + length (set_at job.targets first))
 
--- where the jobs of these records are begun, and none runs
-abbrev pub begin_jobs_now : Tables → List (List ℕ) → ℕ → Now
-begin_jobs_now tables [] mark = stands_at None mark
-begin_jobs_now tables (event ∷ events) mark =
-    begin_with (begin_jobs_now tables events (mark + 1)) mark (job our_sizes tables event) (first_part (job our_sizes tables event))
+abbrev pub turn_behind : Parts → Part → Bool → Option Turn
+turn_behind job (Acting act) result = turn_from job 0
+turn_behind job (Alerting alert) result =
+    turn_or_next job alert.first (first_tried Any result (alert.place + 1) (drop (alert.place + 1) (stops_at job.targets alert.first)))
+turn_behind job Calling result = None
+
+abbrev pub first_turn : Parts → Option Turn
+first_turn job = turn_at job (first_stage job.act)
+
+-- the part that begins, with this sequence number and time-stamp where it is an alert
+abbrev pub attempt_of : Destination → Counted
+attempt_of to = begun_attempt to.acknowledged to.wait to.retries
+
+abbrev pub part_begun : Parts → ℕ → ℕ → Turn → Part
+part_begun job sequence stamp (ToAct act) = Acting act
+part_begun job sequence stamp (ToAlert first place) =
+    Alerting (record { first = first; place = place; sequence = sequence; stamp = stamp; attempt = attempt_of (target_at job.targets first place).to })
+part_begun job sequence stamp ToCall = Calling
+
+-- 65535 is followed by 1
+abbrev pub following : ℕ → ℕ
+following sequence = if sequence == 65535 then 1 else sequence + 1
+
+abbrev pub sequence_after : Turn → ℕ → ℕ
+sequence_after (ToAlert first place) sequence = following sequence
+sequence_after turn sequence = sequence
+
+-- what was begun goes on with this turn, or is over
+abbrev pub begins : Work → ℕ → Option Turn → Now → Now
+begins work stamp None n = record n { running = None; mark = work.number }
+begins work stamp (Some turn) n = record n {
+  running = Some (record { work = work; part = part_begun work.job n.sequence stamp turn });
+  sequence = sequence_after turn n.sequence;
+}
+
+-- a part with a result is over
+abbrev pub progress_by : Counts → Running → Option Bool → Progress
+progress_by counts r None = GoesOn (record r { part = part_after counts r.work.job.event r.part })
+progress_by counts r (Some result) = Ended r.work (turn_behind r.work.job r.part result)
+
+abbrev pub progress : Counts → Running → Progress
+progress counts r = progress_by counts r (result_after counts r.work.job.event r.part)
+
+-- a turn that comes is one that can
+abbrev pub IsProgress : Progress → Type 0
+IsProgress (GoesOn r) = ⊤
+IsProgress (Ended work turn) = IfSome turn (λ turn. IsTurn work.job.targets turn)
+
+abbrev pub now_with : ℕ → Progress → Now → Now
+now_with stamp (GoesOn r) n = record n { running = Some r }
+now_with stamp (Ended work turn) n = begins work stamp turn n
+
+abbrev pub counted_now : Counts → ℕ → Option Running → Now → Now
+counted_now counts stamp None n = n
+counted_now counts stamp (Some r) n = now_with stamp (progress counts r) n
+
+abbrev pub moved_by : Option Counts → ℕ → Now → Now
+moved_by None stamp n = n
+moved_by (Some counts) stamp n = counted_now counts stamp n.running n
+
+-- the jobs of these records begun, where none runs
+abbrev pub work_of : Force → ℕ → List ℕ → Work
+work_of f number event = record { number = number; job = job our_sizes f.pef f.lan f.own.ports event; guid = guid_by f }
+
+abbrev pub begin_with : (Now → Now) → Work → ℕ → Option Turn → Now → Now
+begin_with go_on work stamp None n = go_on (record n { mark = work.number })
+begin_with go_on work stamp (Some turn) n = begins work stamp (Some turn) n
+
+abbrev pub begin_jobs_now : Force → ℕ → List (List ℕ) → Now → Now
+begin_jobs_now f stamp [] n = n
+begin_jobs_now f stamp (event ∷ events) n =
+    begin_with (begin_jobs_now f stamp events) (work_of f (n.mark + 1) event) stamp (first_turn (work_of f (n.mark + 1) event).job) n
+
+abbrev pub force_of : Values → Force
+force_of v = record { own = v.own; pef = v.pef; lan = v.lan }
 
 -- where none runs: with the jobs of the records behind the mark begun
 abbrev pub begun : Values → Values
-begun v = record v { now = begin_jobs_now v.pef (drop v.now.mark v.records) v.now.mark }
+begun v = record v { now = begin_jobs_now (force_of v) (stamp_at v.ticks) (drop v.now.mark v.records) v.now }
 
 -- with what the deed itself does
 abbrev pub with_deed : Deed → Values → Values
 with_deed d v = record {
+  own = v.own;
   pef = pef_with (effect_of d) v.pef;
   lan = lan_with (effect_of d) v.lan;
+  ticks = ticks_after d v.ticks;
   records = records_after d v.records;
   note = note_after d v.note;
   reply = reply_after d v.reply;
-  now = moved_now d v.now;
+  now = moved_by (counts_of d) (stamp_at (ticks_after d v.ticks)) v.now;
 }
 
 -- and with the job that begins then, where none runs and PEF is enabled

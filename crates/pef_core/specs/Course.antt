@@ -1,22 +1,46 @@
 -- The undertakings begun in a past, and the mark: how many records at the front of the log are processed. IPMI 2.0, sections 17.3 and
 -- 17.6. Records are processed one after the other in the order of the log; a record for which nothing is to be done is processed at once.
-use Rattle.std.specs.Prelude.{ℕ, ◌+◌, Bool, true, false, not, ◌&&◌, ◌==◌, List, [], ◌∷◌, drop, if◌then◌else◌}
+use Rattle.std.specs.Prelude.{ℕ, ◌+◌, Bool, true, false, not, ◌&&◌, ◌==◌, List, [], ◌∷◌, drop, Option, Some, None, if◌then◌else◌}
 use Rattle.std.specs.Int.{bit_at}
-use Rattle.board_core.specs.declared.step.Told.{Told}
 use Rattle.event_record.specs.Fields.{octet}
-use Rattle.pef_config.specs.Places.{Tables, Control, our_sizes}
-use Rattle.pef_match.specs.Parts.{Parts}
+use Rattle.lan_dest.specs.Parameters as lan
+use Rattle.pef_config.specs.Places.{Tables, Control, our_sizes, guid_in}
 use Rattle.pef_match.specs.Job.{job}
-use Rattle.pef_core.specs.Past.{Deed, WasTold, log, pef}
-use Rattle.pef_core.specs.Undertaking.{Undertaking, is_running}
+use Rattle.pef_core.specs.declared.counts.Counts.{Counts}
+use Rattle.pef_core.specs.declared.own.Own.{Own}
+use Rattle.pef_core.specs.Settings.{own_of}
+use Rattle.pef_core.specs.Past.{Deed, log, pef, lan_tables, counts_of}
+use Rattle.pef_core.specs.Undertaking.{Undertaking, is_running, drawn_with}
 
 -- the undertakings, the latest first
 pub record Course : Type 0 where
   pub undertakings : List Undertaking
   pub mark : ℕ
 
-abbrev pub begun : ℕ → Parts → Undertaking
-begun number job = record { number = number; job = job; outcomes = [] }
+-- what is in force at one moment: what the settings say, and the parameters
+pub record Force : Type 0 where
+  pub own : Own
+  pub pef : Tables
+  pub lan : lan.Tables
+
+abbrev pub force : List ℕ → List Deed → Force
+force Z past = record { own = own_of Z; pef = pef Z past; lan = lan_tables past }
+
+abbrev pub drawn_by : List Undertaking → ℕ
+drawn_by [] = 0
+drawn_by (u ∷ us) = drawn_with u
+
+-- the GUID of parameter 10 where its bit 0 says so, else that of the settings
+abbrev pub guid_or : Option (List ℕ) → List ℕ → List ℕ
+guid_or None own = own
+guid_or (Some guid) own = guid
+
+abbrev pub guid_by : Force → List ℕ
+guid_by f = guid_or (guid_in f.pef) f.own.guid
+
+-- what is begun for this record: its job, by what is in force
+abbrev pub begun : Force → ℕ → List ℕ → ℕ → Undertaking
+begun f number event drawn = record { number = number; job = job our_sizes f.pef f.lan f.own.ports event; guid = guid_by f; drawn = drawn; since = [] }
 
 abbrev pub is_busy : List Undertaking → Bool
 is_busy [] = false
@@ -26,18 +50,21 @@ is_busy (u ∷ us) = is_running u
 abbrev pub gone_on : Undertaking → List Undertaking → ℕ → Course
 gone_on u us mark = record { undertakings = u ∷ us; mark = if is_running u then mark else u.number }
 
--- an outcome counts for the undertaking that runs
-abbrev pub heard_by : Bool → Told → Undertaking → List Undertaking → ℕ → Course
-heard_by false told u us mark = record { undertakings = u ∷ us; mark = mark }
-heard_by true told u us mark = gone_on (record u { outcomes = told ∷ u.outcomes }) us mark
+-- it counts for the undertaking that runs
+abbrev pub counted_by : Bool → Counts → Undertaking → List Undertaking → ℕ → Course
+counted_by false counts u us mark = record { undertakings = u ∷ us; mark = mark }
+counted_by true counts u us mark = gone_on (record u { since = counts ∷ u.since }) us mark
 
-abbrev pub heard : Told → List Undertaking → ℕ → Course
-heard told [] mark = record { undertakings = []; mark = mark }
-heard told (u ∷ us) mark = heard_by (is_running u) told u us mark
+abbrev pub counted : Counts → List Undertaking → ℕ → Course
+counted counts [] mark = record { undertakings = []; mark = mark }
+counted counts (u ∷ us) mark = counted_by (is_running u) counts u us mark
+
+abbrev pub moved_by : Option Counts → Course → Course
+moved_by None c = c
+moved_by (Some counts) c = counted counts c.undertakings c.mark
 
 abbrev pub moved : Deed → Course → Course
-moved (WasTold told) c = heard told c.undertakings c.mark
-moved deed c = c
+moved deed c = moved_by (counts_of deed) c
 
 -- PEF is enabled: bit 0 of parameter 1 (IPMI 2.0, table 30-7)
 abbrev pub is_enabled : Tables → Bool
@@ -51,14 +78,14 @@ begin_job go_on u c =
     else go_on (record { undertakings = u ∷ c.undertakings; mark = u.number })
 
 -- the jobs of these records, which stand behind the mark, up to the first that goes on
-abbrev pub begin_jobs : Tables → List (List ℕ) → Course → Course
-begin_jobs tables [] c = c
-begin_jobs tables (event ∷ events) c = begin_job (begin_jobs tables events) (begun (c.mark + 1) (job our_sizes tables event)) c
+abbrev pub begin_jobs : Force → List (List ℕ) → Course → Course
+begin_jobs f [] c = c
+begin_jobs f (event ∷ events) c = begin_job (begin_jobs f events) (begun f (c.mark + 1) event (drawn_by c.undertakings)) c
 
 -- A job may begin where none runs and PEF is enabled.
-abbrev pub next_job : Tables → List (List ℕ) → Course → Course
-next_job tables records c = if not (is_busy c.undertakings) && is_enabled tables then begin_jobs tables (drop c.mark records) c else c
+abbrev pub next_job : Force → List (List ℕ) → Course → Course
+next_job f records c = if not (is_busy c.undertakings) && is_enabled f.pef then begin_jobs f (drop c.mark records) c else c
 
 abbrev pub course : List ℕ → List Deed → Course
 course Z [] = record { undertakings = []; mark = 0 }
-course Z (deed ∷ past) = next_job (pef Z (deed ∷ past)) (log (deed ∷ past)) (moved deed (course Z past))
+course Z (deed ∷ past) = next_job (force Z (deed ∷ past)) (log (deed ∷ past)) (moved deed (course Z past))

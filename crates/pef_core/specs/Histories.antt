@@ -1,10 +1,13 @@
 -- What the histories of a controller mean.
-use Rattle.std.specs.Prelude.{◌≡◌, ⊤, ℕ, ◌<◌, ◌≤◌, ◌^◌, false, List, ◌∷◌, length, Option, option_map}
+use Rattle.std.specs.Prelude.{◌≡◌, ⊤, ℕ, ◌<◌, ◌≤◌, ◌^◌, Bool, false, nat_lt, List, [], ◌∷◌, length, Option, Some, None, if◌then◌else◌}
 use Rattle.board_core.specs.declared.step.Act.TheVariants.{Oem}
 use Rattle.board_core.specs.declared.step.Step.{Step}
-use Rattle.board_core.specs.declared.step.Step.TheVariants.{Act}
+use Rattle.board_core.specs.declared.step.Step.TheVariants.{Act, Datagram}
 use Rattle.event_record.specs.Fields.{record_id}
+use Rattle.alert_trap.specs.Trap.{trap_octets}
+use Rattle.lan_dest.specs.Attempts.{Counted, sends}
 use Rattle.pef_commands.specs.Request.{Asked}
+use Rattle.pef_match.specs.declared.target.Target.{Target}
 use Rattle.pef_settings.specs.Settings.{controller}
 use Rattle.pef_engine.specs.declared.entry.Entry.{Entry}
 use Rattle.pef_engine.specs.declared.entry.Entry.TheVariants.{Item as Taken, Outcome}
@@ -13,24 +16,40 @@ use Rattle.pef_engine.specs.Marks.{mark_octets}
 use Rattle.pef_engine.specs.Rules.{Rules}
 use Rattle.pef_engine.specs.Scripts.{MayCome, script_of}
 use Rattle.pef_core.specs.declared.item.Item.{Item}
-use Rattle.pef_core.specs.declared.item.Item.TheVariants.{Event, Command, Open, Close}
+use Rattle.pef_core.specs.declared.item.Item.TheVariants.{Event, Command, Tick, Open, Close}
+use Rattle.pef_core.specs.declared.own.Own.{Own}
+use Rattle.pef_core.specs.declared.part.Alerting.{Alerting as Alert}
 use Rattle.pef_core.specs.declared.part.Part.{Part}
-use Rattle.pef_core.specs.declared.part.Part.TheVariants.{Acting, Calling}
-use Rattle.pef_core.specs.declared.running.Running.{Running}
+use Rattle.pef_core.specs.declared.part.Part.TheVariants.{Acting, Alerting, Calling}
+use Rattle.pef_core.specs.declared.work.Work.{Work}
+use Rattle.pef_core.specs.Undertaking.{target_at}
+use Rattle.pef_core.specs.Running.{Running}
 use Rattle.pef_core.specs.Deeds.{standing}
 use Rattle.pef_core.specs.Report.{step_in, controller_scripts}
 
--- the step of a part, for the record with this ID
-abbrev pub part_step : Part → ℕ → Step
-part_step (Acting act) id = Act act id
-part_step Calling id = Act Oem id
+-- a transmission is due
+abbrev pub is_due : Counted → Bool
+is_due attempt = nat_lt attempt.outcomes (sends attempt.wait attempt.retries attempt.ticks)
 
-abbrev pub running_step : Running → Step
-running_step r = part_step r.part (record_id r.job.event)
+-- the datagram of an alert: the trap of its target, with the sequence number and the time-stamp that it drew
+abbrev pub trap_step : Own → Work → Alert → Target → Step
+trap_step own work alert target = Datagram target.to.to
+    (trap_octets own.origin (record { guid = work.guid; sequence = alert.sequence; stamp = alert.stamp }) (Some work.job.event) target.severity target.text target.to.community)
+
+-- the step of a part that is open
+abbrev pub part_step : Own → Work → Part → Option Step
+part_step own work (Acting act) = Some (Act act (record_id work.job.event))
+part_step own work (Alerting alert) =
+    if is_due alert.attempt then Some (trap_step own work alert (target_at work.job.targets alert.first alert.place)) else None
+part_step own work Calling = Some (Act Oem (record_id work.job.event))
+
+abbrev pub running_step : Own → Option Running → Option Step
+running_step own None = None
+running_step own (Some r) = part_step own r.work r.part
 
 -- the step that is due: that of the open part of the job that runs
 abbrev pub pending : List ℕ → List (Entry Item) → Option Step
-pending Z H = option_map running_step (standing Z H).now.running
+pending Z H = running_step (standing Z H).own (standing Z H).now.running
 
 -- a network function of six bits, and at most 64 octets
 pub record IsRequest (asked : Asked) : Type 0 where
@@ -41,6 +60,7 @@ pub record IsRequest (asked : Asked) : Type 0 where
 abbrev pub IsItem : Item → Type 0
 IsItem (Event octets) = length octets ≡ 16
 IsItem (Command asked) = IsRequest asked
+IsItem Tick = ⊤
 IsItem (Open id count) = (id < 2 ^ 32) × (count < 2 ^ 32)
 IsItem Close = ⊤
 
@@ -48,10 +68,11 @@ abbrev pub IsEntry : Entry Item → Type 0
 IsEntry (Taken item) = IsItem item
 IsEntry (Outcome told) = ⊤
 
--- the octets of an entry: of an event and of a command a tag and its octets, of the others those of every machine that takes scripts
+-- the octets of an entry: of an event, a command and a tick a tag and its octets, of the others those of every machine that takes scripts
 abbrev pub encode : Entry Item → List ℕ
 encode (Taken (Event octets)) = 0x01 ∷ octets
 encode (Taken (Command asked)) = 0x02 ∷ asked.netfn ∷ asked.cmd ∷ asked.payload
+encode (Taken Tick) = 0x03 ∷ []
 encode (Taken (Open id count)) = mark_octets (Opened id count)
 encode (Taken Close) = mark_octets Closed
 encode (Outcome told) = mark_octets (Told told)

@@ -11,10 +11,10 @@ use Rattle.pef_engine.specs.declared.script.ScriptStep.TheVariants.{Takes}
 use Rattle.pef_engine.specs.MachineView.{Agrees}
 use Rattle.pef_engine.specs.Scripts.{MayCome, IsScripted}
 use Rattle.pef_core.specs.declared.item.Item.{Item}
-use Rattle.pef_core.specs.declared.item.Item.TheVariants.{Event, Command, Open, Close}
+use Rattle.pef_core.specs.declared.item.Item.TheVariants.{Event, Command, Tick, Open, Close}
 use Rattle.pef_core.specs.declared.controller.Controller.{Controller}
 use Rattle.pef_core.specs.Histories.{running_step, pending, IsEntry, encode, controller_rules}
-use Rattle.pef_core.specs.Report.{event_of, command_by, command_of, item_of_words, step_in, controller_scripts}
+use Rattle.pef_core.specs.Report.{event_of, command_by, command_of, tick_of, item_of_words, step_in, controller_scripts}
 use Rattle.script_text.specs.Forms.{words_of, octets_exactly, octets_up_to}
 use Rattle.pef_core.specs.View.{ShowsController, due_of, AllowedBy, view_of}
 
@@ -28,6 +28,7 @@ same_size Failed Failed = refl
 pub some_octet : (entry : Entry Item) → 1 ≤ length (encode entry)
 some_octet (Taken (Event octets)) = omega arith
 some_octet (Taken (Command asked)) = omega arith
+some_octet (Taken Tick) = omega arith
 some_octet (Taken (Open id count)) = omega arith
 some_octet (Taken Close) = omega arith
 some_octet (Outcome Done) = omega arith
@@ -48,7 +49,7 @@ controller_agrees controller = record {
 }
   where
     due_is : (Z : List ℕ) (H : List (Entry Item)) → ShowsController controller Z H → due_of controller ≡ pending Z H
-    due_is Z H shows = ap (λ v. option_map running_step v.now.running) shows.values_are
+    due_is Z H shows = ap (λ v. running_step v.own v.now.running) shows.values_are
 
     allowed_is : (Z : List ℕ) (H : List (Entry Item)) (entry : Entry Item) → ShowsController controller Z H → AllowedBy controller entry ↔ Allowed controller_rules Z H entry
     allowed_is Z H (Taken item) shows = (
@@ -84,14 +85,19 @@ commands_take (netfn ∷ cmd ∷ []) item is = absurd (cc is)
 commands_take (netfn ∷ cmd ∷ payload ∷ []) item is = command_by_takes (octets_exactly 1 netfn) (octets_exactly 1 cmd) (octets_up_to 64 payload) item is
 commands_take (netfn ∷ cmd ∷ payload ∷ other ∷ more) item is = absurd (cc is)
 
+ticks_take : (words : List (List ℕ)) (item : Item) → tick_of words ≡ Some item → step_in item ≡ Takes
+ticks_take [] item is = let same : Tick ≡ item = cc is in ap step_in (sym same)
+ticks_take (word ∷ words) item is = absurd (cc is)
+
 takes : (words : List (List ℕ)) (item : Item) → item_of_words words ≡ Some item → step_in item ≡ Takes
 takes [] item is = absurd (cc is)
-takes (first ∷ words) item is = by (bytes_eq first (codes "event")) (bytes_eq first (codes "cmd")) is
+takes (first ∷ words) item is = by (bytes_eq first (codes "event")) (bytes_eq first (codes "cmd")) (bytes_eq first (codes "tick")) is
   where
-    by : (a b : Bool) → (if a then event_of words else if b then command_of words else None) ≡ Some item → step_in item ≡ Takes
-    by true b e = events_take words item e
-    by false true e = commands_take words item e
-    by false false e = absurd (cc e)
+    by : (a b c : Bool) → (if a then event_of words else if b then command_of words else if c then tick_of words else None) ≡ Some item → step_in item ≡ Takes
+    by true b c e = events_take words item e
+    by false true c e = commands_take words item e
+    by false false true e = ticks_take words item e
+    by false false false e = absurd (cc e)
 
 -- a controller takes items as its scripts say
 pub controller_scripted : IsScripted controller_rules controller_scripts

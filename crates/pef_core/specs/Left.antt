@@ -1,20 +1,43 @@
--- How many steps may still be issued before the next item: a job has two at most, its act and its OEM action.
+-- How many steps may still be issued before the next item. Of the alert that is open at most the transmissions that are due now, for a
+-- retry waits for a tick; of each alert behind it one; and so 18 at most for a record: its act, 16 alerts and the OEM action.
 use Rattle.std.specs.Prelude.{ℕ, ◌+◌, ◌-◌, ◌*◌, length, Option, Some, None, if◌then◌else◌}
+use Rattle.lan_dest.specs.Attempts.{sends}
 use Rattle.pef_match.specs.Parts.{Parts}
 use Rattle.pef_core.specs.declared.part.Part.{Part}
-use Rattle.pef_core.specs.declared.part.Part.TheVariants.{Acting, Calling}
-use Rattle.pef_core.specs.declared.running.Running.{Running}
+use Rattle.pef_core.specs.declared.part.Part.TheVariants.{Acting, Alerting, Calling}
+use Rattle.pef_core.specs.declared.progress.Progress.{Progress}
+use Rattle.pef_core.specs.declared.progress.Progress.TheVariants.{GoesOn, Ended}
+use Rattle.pef_core.specs.declared.turn.Turn.{Turn}
+use Rattle.pef_core.specs.declared.turn.Turn.TheVariants.{ToAct, ToAlert, ToCall}
+use Rattle.pef_core.specs.Running.{Running}
 use Rattle.pef_core.specs.Values.{Values}
+
+abbrev pub oem_left : Parts → ℕ
+oem_left job = if job.oem then 1 else 0
 
 -- the steps of a job from this part on
 abbrev pub part_left : Parts → Part → ℕ
-part_left job (Acting act) = 1 + (if job.oem then 1 else 0)
+part_left job (Acting act) = 1 + (length job.targets + oem_left job)
+part_left job (Alerting alert) =
+    sends alert.attempt.wait alert.attempt.retries alert.attempt.ticks - alert.attempt.outcomes
+    + (length job.targets - (alert.first + alert.place + 1) + oem_left job)
 part_left job Calling = 1
 
--- what runs, and two for each record behind it, of so many
+-- the steps of a job from this turn on
+abbrev pub turn_left : Parts → Option Turn → ℕ
+turn_left job None = 0
+turn_left job (Some (ToAct act)) = 1 + (length job.targets + oem_left job)
+turn_left job (Some (ToAlert first place)) = 1 + (length job.targets - (first + place + 1) + oem_left job)
+turn_left job (Some ToCall) = 1
+
+abbrev pub progress_left : Progress → ℕ
+progress_left (GoesOn r) = part_left r.work.job r.part
+progress_left (Ended work turn) = turn_left work.job turn
+
+-- what runs, and 18 for each record behind it, of so many
 abbrev pub now_left : Option Running → ℕ → ℕ → ℕ
-now_left None mark records = 2 * (records - mark)
-now_left (Some r) mark records = part_left r.job r.part + 2 * (records - r.number)
+now_left None mark records = 18 * (records - mark)
+now_left (Some r) mark records = part_left r.work.job r.part + 18 * (records - r.work.number)
 
 abbrev pub left : Values → ℕ
 left v = now_left v.now.running v.now.mark (length v.records)

@@ -1,6 +1,8 @@
 pub mod Settings
 pub mod Past
+pub mod Counting
 pub mod Undertaking
+pub mod Running
 pub mod Course
 pub mod Values
 pub mod Replies

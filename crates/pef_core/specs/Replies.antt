@@ -9,7 +9,7 @@ use Rattle.lan_dest.specs.Parameters as lan
 use Rattle.lan_dest.specs.Rows as lan_rows
 use Rattle.pef_config.specs.Places.{Tables, our_sizes, write}
 use Rattle.pef_config.specs.Rows.{set_code, get_reply}
-use Rattle.pef_core.specs.Past.{Effect, Unchanged, SetPef, SetLan}
+use Rattle.pef_core.specs.Past.{Effect, Unchanged, SetPef, SetLan, Acked}
 
 pub record Answer : Type 0 where
   pub octets : List ℕ
@@ -28,6 +28,7 @@ answer_by tables lan_tables (Ok (commands.SetLan channel parameter payload)) =
     answer_to_write (lan_rows.set_code channel parameter payload) (SetLan (record { channel = channel; parameter = parameter; payload = payload }))
 answer_by tables lan_tables (Ok (commands.GetLan channel parameter revision_only set)) =
     record { octets = lan_rows.get_reply lan_tables channel parameter set revision_only; effect = Unchanged }
+answer_by tables lan_tables (Ok (commands.Acknowledge ack)) = record { octets = 0x00 ∷ []; effect = Acked ack }
 
 abbrev pub answer : Tables → lan.Tables → Asked → Answer
 answer tables lan_tables asked = answer_by tables lan_tables (parsed asked)

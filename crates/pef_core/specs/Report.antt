@@ -11,7 +11,7 @@ use Rattle.pef_engine.specs.declared.script.ScriptStep.TheVariants.{Opens, Takes
 use Rattle.pef_engine.specs.Scripts.{ScriptRules}
 use Rattle.script_text.specs.Forms.{words_of, octets_exactly, octets_up_to}
 use Rattle.pef_core.specs.declared.item.Item.{Item}
-use Rattle.pef_core.specs.declared.item.Item.TheVariants.{Event, Command, Open, Close}
+use Rattle.pef_core.specs.declared.item.Item.TheVariants.{Event, Command, Tick, Open, Close}
 use Rattle.pef_core.specs.declared.note.Note.{Note}
 use Rattle.pef_core.specs.declared.note.Note.TheVariants.{Added, Refused, NotAdded, Nothing}
 use Rattle.pef_core.specs.Past.{note, reply}
@@ -43,6 +43,7 @@ open_line id count = codes "open " ++ encode_lower (to_be_bytes w32 id) ++ codes
 abbrev pub line_by : Values → Item → List ℕ
 line_by v (Event octets) = note_line (note (item_deed v (Event octets) ∷ []))
 line_by v (Command asked) = reply_line (reply (item_deed v (Command asked) ∷ []))
+line_by v Tick = codes "tick\n"
 line_by v (Open id count) = open_line id count
 line_by v Close = codes "close\n"
 
@@ -70,14 +71,20 @@ command_of (netfn ∷ cmd ∷ []) = None
 command_of (netfn ∷ cmd ∷ payload ∷ []) = command_by (octets_exactly 1 netfn) (octets_exactly 1 cmd) (octets_up_to 64 payload)
 command_of (netfn ∷ cmd ∷ payload ∷ other ∷ more) = None
 
+-- nothing more
+abbrev pub tick_of : List (List ℕ) → Option Item
+tick_of [] = Some Tick
+tick_of (word ∷ words) = None
+
 abbrev pub item_of_words : List (List ℕ) → Option Item
 item_of_words [] = None
 item_of_words (first ∷ words) =
     if bytes_eq first (codes "event") then event_of words
     else if bytes_eq first (codes "cmd") then command_of words
+    else if bytes_eq first (codes "tick") then tick_of words
     else None
 
--- the item of a line: `event` and a record, or `cmd` and a command
+-- the item of a line: `event` and a record, `cmd` and a command, or `tick`
 abbrev pub item_of : List ℕ → Option Item
 item_of line = item_of_words (words_of line)
 
@@ -85,6 +92,7 @@ item_of line = item_of_words (words_of line)
 abbrev pub step_in : Item → ScriptStep
 step_in (Event octets) = Takes
 step_in (Command asked) = Takes
+step_in Tick = Takes
 step_in (Open id count) = Opens id count
 step_in Close = Closes
 

@@ -1,44 +1,79 @@
 -- What stands after a past: all that a controller shows of its history.
-use Rattle.std.specs.Prelude.{ℕ, List, [], ◌∷◌, Option, Some, None}
+use Rattle.std.specs.Prelude.{ℕ, ◌+◌, ◌-◌, ◌*◌, ◌%◌, List, [], ◌∷◌, Option, Some, None}
 use Rattle.lan_dest.specs.Parameters as lan
 use Rattle.pef_config.specs.Places.{Tables}
 use Rattle.pef_core.specs.declared.note.Note.{Note}
+use Rattle.pef_core.specs.declared.own.Own.{Own}
+use Rattle.pef_core.specs.declared.part.Alerting.{Alerting as Alert}
 use Rattle.pef_core.specs.declared.part.Part.{Part}
-use Rattle.pef_core.specs.declared.running.Running.{Running}
-use Rattle.pef_core.specs.Past.{Deed, log, pef, lan_tables, note, reply}
-use Rattle.pef_core.specs.Undertaking.{Undertaking, open_part}
-use Rattle.pef_core.specs.Course.{Course, course}
+use Rattle.pef_core.specs.declared.part.Part.TheVariants.{Acting, Alerting, Calling}
+use Rattle.pef_core.specs.declared.turn.Turn.{Turn}
+use Rattle.pef_core.specs.declared.turn.Turn.TheVariants.{ToAct, ToAlert, ToCall}
+use Rattle.pef_core.specs.declared.work.Work.{Work}
+use Rattle.pef_core.specs.Counting.{all_seconds}
+use Rattle.pef_core.specs.Settings.{own_of}
+use Rattle.pef_core.specs.Past.{Deed, log, pef, lan_tables, ticks, note, reply}
+use Rattle.pef_core.specs.Undertaking.{Undertaking, Cut, cut_of, turn_of, alert_at, sequence_behind}
+use Rattle.pef_core.specs.Course.{Course, drawn_by, course}
+use Rattle.pef_core.specs.Running.{Running}
 
--- where the course stands: the job that runs with its open part, and the mark
+-- where the course stands: the job that runs with its open part, the mark, and the sequence number that the next alert draws
 pub record Now : Type 0 where
   pub running : Option Running
   pub mark : ℕ
+  pub sequence : ℕ
 
 pub record Values : Type 0 where
+  pub own : Own
   pub pef : Tables
   pub lan : lan.Tables
+  pub ticks : ℕ
   pub records : List (List ℕ)
   pub note : Note
   pub reply : Option (List ℕ)
   pub now : Now
 
-abbrev pub running_at : Undertaking → Option Part → Option Running
-running_at u None = None
-running_at u (Some part) = Some (record { number = u.number; job = u.job; part = part })
+-- the time-stamp after so many seconds, in hundredths of a second, of 32 bits (RFC 1157, section 4.1.6)
+abbrev pub stamp_at : ℕ → ℕ
+stamp_at seconds = 100 * seconds % 4294967296
 
-abbrev pub running : List Undertaking → Option Running
-running [] = None
-running (u ∷ us) = running_at u (open_part u)
+-- An alert that is open. Its time-stamp is that of the moment at which it began: so many seconds ago as passed in it.
+abbrev pub alert_in : ℕ → Undertaking → Cut → ℕ → ℕ → Alert
+alert_in now u cut first place = record {
+  first = first;
+  place = place;
+  sequence = sequence_behind (u.drawn + cut.alerts);
+  stamp = stamp_at (now - all_seconds cut.since);
+  attempt = alert_at u.job (sequence_behind (u.drawn + cut.alerts)) first place cut.since;
+}
 
-abbrev pub now_of : Course → Now
-now_of c = record { running = running c.undertakings; mark = c.mark }
+abbrev pub part_in : ℕ → Undertaking → Cut → Turn → Part
+part_in now u cut (ToAct act) = Acting act
+part_in now u cut (ToAlert first place) = Alerting (alert_in now u cut first place)
+part_in now u cut ToCall = Calling
+
+abbrev pub work_in : Undertaking → Work
+work_in u = record { number = u.number; job = u.job; guid = u.guid }
+
+abbrev pub running_at : ℕ → Undertaking → Option Turn → Option Running
+running_at now u None = None
+running_at now u (Some turn) = Some (record { work = work_in u; part = part_in now u (cut_of u) turn })
+
+abbrev pub running : ℕ → List Undertaking → Option Running
+running now [] = None
+running now (u ∷ us) = running_at now u (turn_of u)
+
+abbrev pub now_of : ℕ → Course → Now
+now_of now c = record { running = running now c.undertakings; mark = c.mark; sequence = sequence_behind (drawn_by c.undertakings) }
 
 abbrev pub values : List ℕ → List Deed → Values
 values Z past = record {
+  own = own_of Z;
   pef = pef Z past;
   lan = lan_tables past;
+  ticks = ticks past % 4294967296;
   records = log past;
   note = note past;
   reply = reply past;
-  now = now_of (course Z past);
+  now = now_of (ticks past) (course Z past);
 }

@@ -1,5 +1,5 @@
 -- What is said of one controller.
-use Rattle.std.specs.Prelude.{◌≡◌, ⊤, List, ℕ, Option, None, IsSome, option_map}
+use Rattle.std.specs.Prelude.{◌≡◌, ⊤, List, ℕ, Option, None, IsSome}
 use Rattle.board_core.specs.declared.step.Step.{Step}
 use Rattle.lan_dest.specs.Kept.{kept}
 use Rattle.pef_config.specs.Kept.{tables}
@@ -18,12 +18,14 @@ use Rattle.pef_core.specs.Report.{step_in, controller_scripts}
 -- what a controller holds
 abbrev pub shown : Controller → Values
 shown c = record {
+  own = c.own;
   pef = tables c.config;
   lan = kept c.lan;
+  ticks = c.ticks;
   records = c.log;
   note = c.note;
   reply = c.reply;
-  now = record { running = c.running; mark = c.mark };
+  now = record { running = c.running; mark = c.mark; sequence = c.sequence };
 }
 
 -- it holds what stands after this history, and the script that was opened last in it
@@ -33,7 +35,7 @@ pub record ShowsController (controller : Controller) (Z : List ℕ) (H : List (E
 
 -- the step of the job that runs
 abbrev pub due_of : Controller → Option Step
-due_of controller = option_map running_step controller.running
+due_of controller = running_step controller.own controller.running
 
 abbrev pub AllowedBy : Controller → Entry Item → Type 0
 AllowedBy controller (Taken item) = (due_of controller ≡ None) × (MayCome controller.script (step_in item) × IsItem item)

@@ -1,29 +1,41 @@
 //! The controller's state.
+ghost use Rattle.std.specs.Prelude.{◌≡◌};
+ghost use Rattle.pef_core.specs.After.{following};
 
+use crate::counts::Counts;
 use crate::events::add_event;
 use crate::item::{Item, step_in};
-use crate::jobs::{first_part, part_behind};
 use crate::note::Note;
+use crate::own::Own;
+use crate::progress::Progress;
 use crate::replying::reply_to;
 use crate::running::Running;
+use crate::turn::Turn;
+use crate::turns::first_turn;
+use crate::work::Work;
 use board_core::{Octets, Told};
 use event_record::Log;
 use lan_dest::Lan;
 use pef_commands::Request;
 use pef_config::{Config, Initial};
 use pef_engine::{Entry, Script, script_behind};
-use pef_match::{Job, job_of};
+use pef_match::job_of;
 use std::alloc::{AllocError, Global};
 
 /// A controller: its parameters, the records that were logged, and how far they are processed.
 #[derive(Drop)]
 pub struct Controller {
+    pub(crate) own: Own,
     config: Config,
     lan: Lan,
     log: Log,
+    /// The seconds so far, modulo 2 to the power of 32.
+    ticks: u32,
     /// How many records at the front of the log are processed.
     mark: usize,
-    /// The job that runs, of the record behind the mark. While one runs its step is due.
+    /// The sequence number of the next alert, 1 to 65535.
+    sequence: u16,
+    /// The job that runs, of the record behind the mark.
     pub(crate) running: Option<Running>,
     pub(crate) script: Option<Script>,
     note: Note,
@@ -31,28 +43,33 @@ pub struct Controller {
 }
 
 impl Controller {
-    ghost use Rattle.std.specs.Prelude.{◌≡◌, ◌<◌, ℕ, [], ◌∷◌, List, Some, None, IfOk, IsSome, length, option_copied, option_map, slice_get};
+    ghost use Rattle.std.specs.Prelude.{◌≡◌, ◌<◌, ◌≤◌, ◌+◌, ◌-◌, ◌*◌, ℕ, [], ◌∷◌, List, Some, None, IfOk, IsSome, IfSome, length, option_copied, option_map, slice_get};
     ghost use Rattle.pef_config.specs.Kept.{tables};
-    ghost use Rattle.pef_config.specs.Places.{our_sizes};
-    ghost use Rattle.pef_match.specs.Job.{job};
     ghost use Rattle.pef_engine.specs.Scripts.{MayCome, script_with, script_from};
-    ghost use Rattle.pef_core.specs.Settings.{initial_of};
+    ghost use Rattle.pef_core.specs.Settings.{initial_of, own_of};
     ghost use Rattle.pef_core.specs.Deeds.{item_deed, deed, standing};
-    ghost use Rattle.pef_core.specs.After.{with_deed, with_next_job, begun};
-    ghost use Rattle.pef_core.specs.Past.{WasTold};
+    ghost use Rattle.pef_core.specs.After.{with_deed, with_next_job, begun, begins, counted_now, force_of, work_of};
+    ghost use Rattle.pef_core.specs.Past.{Ticked, WasTold};
+    ghost use Rattle.pef_core.specs.Running.{IsTurn, MayCountNow};
+    ghost use Rattle.pef_core.specs.Left.{left};
+    ghost use Rattle.pef_engine.specs.Rules.{IsOutcome};
+    ghost use Rattle.pef_core.specs.Values.{stamp_at};
     ghost use Rattle.pef_core.specs.Course.{is_enabled};
     ghost use Rattle.pef_core.specs.Report.{step_in, controller_scripts};
-    ghost use Rattle.pef_core.specs.View.{shown, ShowsController, AllowedBy};
+    ghost use Rattle.pef_core.specs.View.{shown, due_of, ShowsController, AllowedBy};
 
-    /// The controller with these initial parameters at the start of its history, with room for a whole log.
-    pub(crate) fn new(alloc: Global, initial: &Initial) -> Result<Controller, AllocError>
-        ensures { IfOk result (λ controller. (Z : List ℕ) → initial.now ≡ initial_of Z → ShowsController controller Z []) }
+    /// The controller of these settings at the start of its history, with room for a whole log.
+    pub(crate) fn new(alloc: Global, own: Own, initial: &Initial) -> Result<Controller, AllocError>
+        ensures { IfOk result (λ controller. (Z : List ℕ) → own ≡ own_of Z → initial.now ≡ initial_of Z → ShowsController controller Z []) }
     {
         Ok(Controller {
+            own,
             config: Config::new(initial),
             lan: Lan::new(),
             log: Log::new(alloc)?,
+            ticks: 0,
             mark: 0,
+            sequence: 1,
             running: None,
             script: None,
             note: Note::Nothing,
@@ -74,11 +91,23 @@ impl Controller {
         self.reply.as_ref()
     }
 
+    /// At most 18 steps are left before the next item for each record that isn't processed: its act, 16 alerts and the OEM action; each
+    /// outcome leaves fewer (`apply`). This does nothing when it runs.
+    pub fn has_few_steps_left(&self)
+        ensures { (Z : List ℕ) (H : List (Entry Item)) → ShowsController self.now Z H
+            → left (shown self.now) ≤ 18 * (length self.now.log - self.now.mark) }
+    {
+        if let Some(running) = &self.running {
+            running.is_open();
+        }
+    }
+
     /// What the entry does, but for the job that may begin then.
     pub(crate) fn enter(&mut self, entry: &Entry<Item>)
         requires { AllowedBy self.old entry.now }
         ensures values { shown self.new ≡ with_deed (deed (shown self.old) entry.now) (shown self.old) }
         ensures script { self.new.script ≡ script_from controller_scripts self.old.script (entry.now ∷ []) }
+        ensures fewer { IsOutcome entry.now → left (shown self.new) < left (shown self.old) }
     {
         match entry {
             Entry::Item(item) => self.take(item),
@@ -88,7 +117,8 @@ impl Controller {
 
     // Takes an item, but for the job that may begin then.
     fn take(&mut self, item: &Item)
-        requires { MayCome self.old.script (step_in item.now) }
+        requires may { MayCome self.old.script (step_in item.now) }
+        requires none_due { due_of self.old ≡ None }
         ensures values { shown self.new ≡ with_deed (item_deed (shown self.old) item.now) (shown self.old) }
         ensures script { self.new.script ≡ script_with self.old.script (step_in item.now) }
     {
@@ -96,11 +126,27 @@ impl Controller {
         match item {
             Item::Event(octets) => self.log_event(octets),
             Item::Command(request) => self.answer(request),
-            Item::Open { .. } | Item::Close => {
-                self.note = Note::Nothing;
-                self.reply = None;
-            }
+            Item::Tick => self.tick(),
+            Item::Open { .. } | Item::Close => self.say_nothing(),
         }
+    }
+
+    // The item changed nothing in the log, and was no command.
+    fn say_nothing(&mut self)
+        ensures { self.new ≡ record self.old { note = Note.Nothing; reply = None } }
+    {
+        self.note = Note::Nothing;
+        self.reply = None;
+    }
+
+    fn tick(&mut self)
+        requires { due_of self.old ≡ None }
+        ensures values { shown self.new ≡ with_deed Ticked (shown self.old) }
+        ensures script { self.new.script ≡ self.old.script }
+    {
+        self.ticks = self.ticks.wrapping_add(1);
+        self.say_nothing();
+        self.count(&Counts::Second);
     }
 
     fn log_event(&mut self, octets: &[u8; 16])
@@ -112,11 +158,15 @@ impl Controller {
     }
 
     fn answer(&mut self, request: &Request)
+        requires { due_of self.old ≡ None }
         ensures values { shown self.new ≡ with_deed (item_deed (shown self.old) (Item.Command request.now)) (shown self.old) }
         ensures script { self.new.script ≡ self.old.script }
     {
         let reply = reply_to(&mut self.config, &mut self.lan, request);
-        self.keep(reply);
+        self.keep(reply.octets);
+        if let Some(ack) = reply.ack {
+            self.count(&Counts::Ack(ack));
+        }
     }
 
     // Keeps the reply to a command.
@@ -127,21 +177,50 @@ impl Controller {
         self.reply = Some(reply);
     }
 
-    // The step of the open part had its outcome: the next part of the job is open, or the job is over. It makes no difference what
-    // was told.
+    // The step that was due had its outcome.
     fn hear(&mut self, told: Told)
+        requires { IsSome (due_of self.old) }
         ensures values { shown self.new ≡ with_deed (WasTold told) (shown self.old) }
         ensures script { self.new.script ≡ self.old.script }
+        ensures fewer { left (shown self.new) < left (shown self.old) }
     {
-        let _ = told;
-        if let Some(running) = &mut self.running {
-            match part_behind(running) {
-                Some(part) => running.part = part,
-                None => {
-                    self.mark = running.number;
-                    self.running = None;
-                }
-            }
+        let Some(running) = &self.running else {
+            return;
+        };
+        running.is_open();
+        self.count(&Counts::Heard(told));
+    }
+
+    // What counts for the job that runs brings it on.
+    fn count(&mut self, counts: &Counts)
+        requires { MayCountNow counts.now self.old.running }
+        ensures values { shown self.new ≡ record (shown self.old) { now = counted_now counts.now (stamp_at self.old.ticks) self.old.running (shown self.old).now } }
+        ensures script { self.new.script ≡ self.old.script }
+    {
+        let Some(running) = self.running.take() else {
+            return;
+        };
+        match running.after(counts) {
+            Progress::GoesOn(running) => self.running = Some(running),
+            Progress::Ended { work, turn } => self.begin(work, turn),
+        }
+    }
+
+    // What was begun goes on with this turn, or is over.
+    fn begin(&mut self, work: Work, turn: Option<Turn>)
+        requires { IfSome turn (λ turn. IsTurn work.job.targets turn) }
+        ensures values { shown self.new ≡ record (shown self.old) { now = begins work (stamp_at self.old.ticks) turn (shown self.old).now } }
+        ensures script { self.new.script ≡ self.old.script }
+    {
+        let Some(turn) = turn else {
+            self.mark = work.number;
+            self.running = None;
+            return;
+        };
+        let stamp = self.ticks.wrapping_mul(100);
+        self.running = Some(Running::begin(work, turn, self.sequence, stamp));
+        if let Turn::ToAlert { .. } = turn {
+            self.sequence = following(self.sequence);
         }
     }
 
@@ -161,14 +240,18 @@ impl Controller {
         self.config.control() % 2 == 1
     }
 
-    // The job of the record behind the mark, and none where all are processed.
-    fn waiting(&self) -> Option<Job>
-        ensures job { result ≡ option_map (job our_sizes (tables self.now.config)) (slice_get self.now.log self.now.mark) }
+    // What is to be begun for the record behind the mark, and none where all are processed.
+    fn waiting(&self) -> Option<Work>
+        ensures work { result ≡ option_map (work_of (force_of (shown self.now)) (self.now.mark + 1)) (slice_get self.now.log self.now.mark) }
         ensures within { IsSome result → self.now.mark < 1024 }
     {
         let event = self.log.get(self.mark)?;
         prove!(self.mark < self.log.len());
-        Some(job_of(&self.config, event))
+        Some(Work {
+            number: self.mark + 1,
+            job: job_of(&self.config, &self.lan, &self.own.ports, event),
+            guid: self.config.guid().unwrap_or(self.own.guid),
+        })
     }
 
     // Begins the first job with a part among the records behind the mark, and passes over those for which nothing is to be done.
@@ -177,16 +260,24 @@ impl Controller {
         ensures values { shown self.new ≡ begun (shown self.old) }
         ensures script { self.new.script ≡ self.old.script }
     {
-        'records: while let Some(job) = self.waiting() {
-            if let Some(part) = first_part(&job) {
-                self.running = Some(Running {
-                    number: self.mark + 1,
-                    job,
-                    part,
-                });
+        'records: while let Some(work) = self.waiting() {
+            let turn = first_turn(&work.job);
+            if turn.is_some() {
+                self.begin(work, turn);
                 return;
             }
             self.mark += 1;
         }
+    }
+}
+
+// The sequence number behind this one: 65535 is followed by 1.
+fn following(sequence: u16) -> u16
+    ensures { result ≡ following sequence }
+{
+    if sequence == u16::MAX {
+        1
+    } else {
+        sequence + 1
     }
 }

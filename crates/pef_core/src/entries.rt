@@ -1,5 +1,5 @@
 //! The octets of an entry.
-ghost use Rattle.std.specs.Prelude.{◌≡◌, ◌≤◌, ◌++◌, length};
+ghost use Rattle.std.specs.Prelude.{◌≡◌, ◌≢◌, ◌≤◌, ◌++◌, [], ◌∷◌, true, false, length};
 ghost use Rattle.pef_engine.specs.Rules.{Decodes};
 ghost use Rattle.pef_core.specs.Histories.{encode, controller_rules};
 ghost use Rattle.pef_core.specs.Entries.{marked, ReadsEvent, ReadsCommand};
@@ -13,6 +13,8 @@ const EVENT: u8 = 0x01;
 
 const COMMAND: u8 = 0x02;
 
+const TICK: u8 = 0x03;
+
 /// The octets of the entry: its tag, and then what it says.
 pub(crate) fn encode(entry: &Entry<Item>) -> Payload
     ensures { result ≡ encode entry.now }
@@ -25,6 +27,7 @@ pub(crate) fn encode(entry: &Entry<Item>) -> Payload
                 request.payload(),
             )
         }
+        Entry::Item(Item::Tick) => tagged(&[TICK], &[]),
         Entry::Item(Item::Open { id, count }) => write_mark(Mark::Open {
             id: *id,
             count: *count,
@@ -56,6 +59,9 @@ pub(crate) fn decode(octets: &[u8]) -> Option<Entry<Item>>
     if let Some(request) = command_in(octets) {
         return Some(Entry::Item(Item::Command(request)));
     }
+    if is_tick(octets) {
+        return Some(Entry::Item(Item::Tick));
+    }
     match read_mark(octets) {
         Some(mark) => Some(marked(mark)),
         None => None,
@@ -80,6 +86,17 @@ fn event_in(octets: &[u8]) -> Option<[u8; 16]>
     match octets {
         [EVENT, event @ ..] => <[u8; 16]>::try_from(event).ok(),
         _ => None,
+    }
+}
+
+// Whether these octets are those of a tick.
+fn is_tick(octets: &[u8]) -> bool
+    ensures tick { result ≡ true → octets.now ≡ 0x03 ∷ [] }
+    ensures other { result ≡ false → octets.now ≢ 0x03 ∷ [] }
+{
+    match octets {
+        [tag] => *tag == TICK,
+        _ => false,
     }
 }
 

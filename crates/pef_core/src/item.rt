@@ -13,6 +13,8 @@ pub enum Item {
     Event([u8; 16]),
     /// A command, which is answered (IPMI 2.0, chapters 23 and 30).
     Command(Request),
+    /// One second passed.
+    Tick,
     /// From here on items are taken from this script, which has `count` of them.
     Open { id: u32, count: u32 },
     /// All items of the script were taken.
@@ -33,6 +35,7 @@ pub(crate) fn step_in(item: &Item) -> ScriptStep
             is_request(request);
             ScriptStep::Takes
         }
+        Item::Tick => ScriptStep::Takes,
         Item::Open { id, count } => ScriptStep::Opens {
             id: *id,
             count: *count,

@@ -2,21 +2,27 @@
 #![tactic(auto)]
 
 mod controller;
+mod counts;
 mod entries;
 mod events;
 mod item;
-mod jobs;
 mod laws;
 mod machine;
 mod note;
+mod own;
 mod part;
+mod progress;
 mod replying;
 mod report;
 mod running;
+mod settings;
+mod turn;
+mod turns;
+mod work;
 
 pub use controller::Controller;
 pub use item::Item;
-pub use laws::{idle_law, job_law, order_law, start_law};
+pub use laws::{idle_law, job_law, order_law, retry_law, sequence_law, start_law};
 pub use note::Note;
 
 #[cfg(test)]

@@ -6,7 +6,7 @@ ghost use Rattle.pef_core.specs.Laws.{controller_agrees, same_size, are_entries,
 use crate::controller::Controller;
 use crate::entries;
 use crate::item::{Item, step_in};
-use crate::jobs::step_of;
+use crate::settings::own_of;
 use board_core::{Payload, Step};
 use pef_config::Initial;
 use pef_engine::{Entry, Machine, MachineFault, may_come};
@@ -43,11 +43,11 @@ impl Machine for Controller {
             delay: settings[DELAY],
             filter,
         };
-        Controller::new(alloc, &initial)
+        Controller::new(alloc, own_of(settings), &initial)
     }
 
     fn allows(&self, entry: &Entry<Item>) -> bool {
-        let is_due = self.running.is_some();
+        let is_due = self.next().is_some();
         match entry {
             Entry::Item(item) => !is_due && may_come(self.script, step_in(item)),
             Entry::Outcome(_) => is_due,
@@ -65,7 +65,7 @@ impl Machine for Controller {
 
     fn next(&self) -> Option<Step> {
         match &self.running {
-            Some(running) => Some(step_of(running)),
+            Some(running) => running.step(&self.own),
             None => None,
         }
     }

@@ -1,8 +1,8 @@
 //! What a controller says of its items, and the items of its scripts.
-ghost use Rattle.std.specs.Prelude.{◌≡◌, ◌++◌, ◌≤◌, [], length, codes, option_copied};
+ghost use Rattle.std.specs.Prelude.{◌≡◌, ◌++◌, ◌≤◌, [], ◌∷◌, length, codes, option_copied};
 ghost use Rattle.report_line.specs.Line.{line_end};
 ghost use Rattle.script_text.specs.Forms.{words_of, octets_exactly, octets_up_to};
-ghost use Rattle.pef_core.specs.Report.{controller_scripts, note_line, reply_line, open_line, item_of, event_of, command_of, command_by, id_digits};
+ghost use Rattle.pef_core.specs.Report.{controller_scripts, note_line, reply_line, open_line, item_of, item_of_words, event_of, command_of, command_by, id_digits};
 ghost use Rattle.pef_core.specs.Laws.{controller_scripted};
 
 use crate::controller::Controller;
@@ -44,25 +44,46 @@ impl Scripted for Controller {
         match item {
             Item::Event(_) => note_text(self.note()),
             Item::Command(_) => reply_text(self.reply()),
+            Item::Tick => LineBuilder::new().text(b"tick").end(),
             Item::Open { id, count } => open_text(*id, *count),
             Item::Close => LineBuilder::new().text(b"close").end(),
         }
     }
 }
 
-// The item of a line `event RECORD` or `cmd NETFN COMMAND OCTETS`.
+// The item of a line `event RECORD`, `cmd NETFN COMMAND OCTETS` or `tick`.
 fn read_item(line: &[u8]) -> Option<Item>
     ensures { result ≡ item_of line.now }
 {
     let (word, rest) = first_word(line);
-    let rest = rest?;
+    match rest {
+        Some(rest) => item_with(word, rest),
+        None => item_alone(word),
+    }
+}
+
+// The item of a line of one word.
+fn item_alone(word: &[u8]) -> Option<Item>
+    ensures { result ≡ item_of_words (word.now ∷ []) }
+{
+    if word == b"tick".as_slice() {
+        Some(Item::Tick)
+    } else {
+        None
+    }
+}
+
+// The item of this word with these behind it.
+fn item_with(word: &[u8], rest: &[u8]) -> Option<Item>
+    ensures { result ≡ item_of_words (word.now ∷ words_of rest.now) }
+{
     if word == b"event".as_slice() {
-        return event_of(rest);
+        event_of(rest)
+    } else if word == b"cmd".as_slice() {
+        command_of(rest)
+    } else {
+        None
     }
-    if word == b"cmd".as_slice() {
-        return command_of(rest);
-    }
-    None
 }
 
 // The item of the words behind `event`: a record in 32 digits.

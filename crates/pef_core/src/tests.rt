@@ -4,6 +4,7 @@ use board_core::{Act, Step, Told};
 use event_record::{LogFault, RecordFault};
 use pef_commands::Request;
 use pef_engine::{Entry, Machine, Script, Scripted};
+use std::alloc::{AllocError, Global};
 use std::process::Abort;
 use std::test::Fail;
 
@@ -13,6 +14,39 @@ const SETTINGS: [u8; 55] = [
     162, 0, 1, 0x3F, 0, 0x80, 0x20, 0x00, 0x10, 0xFF, 0xFF, 0x04, 0xFF, 0x01, 0x04, 0x00, 0x00,
     0x00, 0x00, 0x00, 0x00, 0x00, 0x00, 0x00, 0x00,
 ];
+
+/// The same with a GUID, the agent address 10.0.0.2, manufacturer 99999 and system 1; the filter asks for an alert by policy 1.
+const ALERTING: [u8; 55] = [
+    0x00, 0x11, 0x22, 0x33, 0x44, 0x55, 0x66, 0x77, 0x88, 0x99, 0xAA, 0xBB, 0xCC, 0xDD, 0xEE, 0xFF,
+    10, 0, 0, 2, 0x9F, 0x86, 0x01, 0x00, 0x01, 0x00, 162, 0, 162, 0, 162, 0, 1, 0x3F, 0, 0x80,
+    0x01, 0x01, 0x10, 0xFF, 0xFF, 0x04, 0xFF, 0x01, 0x04, 0x00, 0x00, 0x00, 0x00, 0x00, 0x00, 0x00,
+    0x00, 0x00, 0x00,
+];
+
+/// The trap of the fan's event with sequence number 1 and time-stamp 0.
+const FIRST_TRAP: [u8; 108] = [
+    0x30, 0x6A, 0x02, 0x01, 0x00, 0x04, 0x06, 0x70, 0x75, 0x62, 0x6C, 0x69, 0x63, 0xA4, 0x5D, 0x06,
+    0x09, 0x2B, 0x06, 0x01, 0x04, 0x01, 0x98, 0x6F, 0x01, 0x01, 0x40, 0x04, 0x0A, 0x00, 0x00, 0x02,
+    0x02, 0x01, 0x06, 0x02, 0x03, 0x04, 0x01, 0x02, 0x43, 0x01, 0x00, 0x30, 0x3F, 0x30, 0x3D, 0x06,
+    0x0A, 0x2B, 0x06, 0x01, 0x04, 0x01, 0x98, 0x6F, 0x01, 0x01, 0x01, 0x04, 0x2F, 0x00, 0x11, 0x22,
+    0x33, 0x44, 0x55, 0x66, 0x77, 0x88, 0x99, 0xAA, 0xBB, 0xCC, 0xDD, 0xEE, 0xFF, 0x00, 0x01, 0x06,
+    0xEF, 0xED, 0x80, 0xFF, 0xFF, 0x20, 0x20, 0x10, 0x20, 0x30, 0x00, 0x00, 0x52, 0x10, 0x20, 0x00,
+    0x00, 0x00, 0x00, 0x00, 0xFF, 0x00, 0x01, 0x86, 0x9F, 0x00, 0x01, 0xC1,
+];
+
+/// The same nine seconds later, with time-stamp 900 and sequence number 2.
+const SECOND_TRAP: [u8; 109] = [
+    0x30, 0x6B, 0x02, 0x01, 0x00, 0x04, 0x06, 0x70, 0x75, 0x62, 0x6C, 0x69, 0x63, 0xA4, 0x5E, 0x06,
+    0x09, 0x2B, 0x06, 0x01, 0x04, 0x01, 0x98, 0x6F, 0x01, 0x01, 0x40, 0x04, 0x0A, 0x00, 0x00, 0x02,
+    0x02, 0x01, 0x06, 0x02, 0x03, 0x04, 0x01, 0x02, 0x43, 0x02, 0x03, 0x84, 0x30, 0x3F, 0x30, 0x3D,
+    0x06, 0x0A, 0x2B, 0x06, 0x01, 0x04, 0x01, 0x98, 0x6F, 0x01, 0x01, 0x01, 0x04, 0x2F, 0x00, 0x11,
+    0x22, 0x33, 0x44, 0x55, 0x66, 0x77, 0x88, 0x99, 0xAA, 0xBB, 0xCC, 0xDD, 0xEE, 0xFF, 0x00, 0x02,
+    0x06, 0xEF, 0xED, 0x80, 0xFF, 0xFF, 0x20, 0x20, 0x10, 0x20, 0x30, 0x00, 0x00, 0x52, 0x10, 0x20,
+    0x00, 0x00, 0x00, 0x00, 0x00, 0xFF, 0x00, 0x01, 0x86, 0x9F, 0x00, 0x01, 0xC1,
+];
+
+/// The place of the last octet of the sequence number in the second trap.
+const SEQUENCE: usize = 79;
 
 /// A fan's event with this ID, this type and this event data 1.
 fn event(id: u8, kind: u8, event_data_1: u8) -> Entry<Item> {
@@ -44,6 +78,10 @@ fn close() -> Entry<Item> {
     Entry::Item(Item::Close)
 }
 
+fn tick() -> Entry<Item> {
+    Entry::Item(Item::Tick)
+}
+
 fn told(told: Told) -> Entry<Item> {
     Entry::Outcome(told)
 }
@@ -52,6 +90,20 @@ fn told(told: Told) -> Entry<Item> {
 fn command(rt: &impl Abort, cmd: u8, payload: &[u8]) -> Entry<Item> {
     let request = Request::read(0x04, cmd, payload).expect(rt, "a request");
     Entry::Item(Item::Command(request))
+}
+
+/// Set LAN Configuration Parameters of channel 1.
+fn set_lan(rt: &impl Abort, payload: &[u8]) -> Entry<Item> {
+    let request = Request::read(0x0C, 0x01, payload).expect(rt, "a request");
+    Entry::Item(Item::Command(request))
+}
+
+/// PET Acknowledge of the fan's trap with this sequence number, this last octet of the timestamp and this of the event data.
+fn acknowledge(rt: &impl Abort, sequence: u8, time: u8, data: u8) -> Entry<Item> {
+    let fields = [
+        sequence, 0x00, time, 0xED, 0xEF, 0x06, 0x20, 0x20, 0x30, 0x52, 0x10, data,
+    ];
+    command(rt, 0x17, &fields)
 }
 
 /// The filter of the settings with these actions, as the data of a command that writes it as this filter.
@@ -77,6 +129,86 @@ fn due(controller: &Controller) -> Option<(Act, u16)> {
         Some(Step::Act { kind, id }) => Some((kind, id)),
         _ => None,
     }
+}
+
+/// The last octet of the address to which a trap is due, and whether the trap is this one.
+fn due_trap(controller: &Controller, trap: &[u8]) -> Option<(u8, bool)> {
+    match controller.next() {
+        Some(Step::Datagram { to, octets }) => Some((to.ip[3], octets.as_slice() == trap)),
+        _ => None,
+    }
+}
+
+/// The controller with two policy entries of policy 1. The first destination, 10.0.0.9, is to be acknowledged, with a wait of three
+/// seconds and two retries; the second, 10.0.0.10, is for an alert that failed at the first, and is sent to once.
+fn alerting(rt: &impl Abort, alloc: Global) -> Result<Controller, AllocError> {
+    let mut controller = Controller::fresh(alloc, &ALERTING)?;
+    let rows = [
+        command(rt, 0x12, &[0x09, 0x01, 0x18, 0x11, 0x00]),
+        command(rt, 0x12, &[0x09, 0x02, 0x19, 0x12, 0x00]),
+        set_lan(rt, &[0x01, 0x12, 0x01, 0x80, 0x02, 0x02]),
+        set_lan(rt, &[0x01, 0x13, 0x01, 0, 0, 10, 0, 0, 9, 0, 0, 0, 0, 0, 0]),
+        set_lan(rt, &[0x01, 0x12, 0x02, 0x00, 0x00, 0x00]),
+        set_lan(
+            rt,
+            &[0x01, 0x13, 0x02, 0, 0, 10, 0, 0, 10, 0, 0, 0, 0, 0, 0],
+        ),
+    ];
+    for entry in rows {
+        assert!(rt; go(&mut controller, &entry));
+        assert_eq!(rt;
+            controller.reply().map(|octets| octets.as_slice()),
+            Some([0x00].as_slice())
+        );
+    }
+    Ok(controller)
+}
+
+#[test]
+fn an_alert_is_sent_again_until_it_ends(rt: HostRuntime) -> Result<(), Fail> {
+    let mut controller = alerting(&rt, rt.alloc())?;
+    let mut third = SECOND_TRAP;
+    third[SEQUENCE] = 0x03;
+    let mut fourth = SECOND_TRAP;
+    fourth[SEQUENCE] = 0x04;
+    let first = FIRST_TRAP.as_slice();
+    let second = SECOND_TRAP.as_slice();
+    let third = third.as_slice();
+    let fourth = fourth.as_slice();
+    // The entry, and to which address which trap is due behind it.
+    let rows = [
+        (event(1, 0x02, 0x52), first, Some((9, true))),
+        // a retry with the same octets after each three seconds since the first outcome, whatever the outcomes are
+        (told(Told::Done), first, None),
+        (tick(), first, None),
+        (tick(), first, None),
+        (tick(), first, Some((9, true))),
+        (told(Told::Failed), first, None),
+        (tick(), first, None),
+        (tick(), first, None),
+        (tick(), first, Some((9, true))),
+        (told(Told::Done), first, None),
+        (tick(), first, None),
+        (tick(), first, None),
+        // it failed, and the next target's alert begins
+        (tick(), second, Some((10, true))),
+        (told(Told::Failed), second, None),
+        // acknowledged in all fields, and so the second target isn't tried
+        (event(2, 0x02, 0x52), third, Some((9, true))),
+        (told(Told::Done), third, None),
+        (acknowledge(&rt, 2, 0x80, 0x20), third, None),
+        (event(3, 0x02, 0x52), third, None),
+        (acknowledge(&rt, 3, 0x81, 0x20), third, None),
+        (acknowledge(&rt, 3, 0x80, 0x21), third, None),
+        (acknowledge(&rt, 3, 0x80, 0x20), fourth, Some((9, true))),
+        (told(Told::Failed), fourth, None),
+        (acknowledge(&rt, 4, 0x80, 0x20), fourth, None),
+    ];
+    for (entry, trap, step) in rows {
+        assert!(rt; go(&mut controller, &entry));
+        assert_eq!(rt; due_trap(&controller, trap), step);
+    }
+    Ok(())
 }
 
 #[test]
@@ -192,6 +324,7 @@ fn an_entry_has_its_octets(rt: HostRuntime) {
             [0x02, 0x04, 0x12, 0x05, 0x10].as_slice(),
         ),
         (command(&rt, 0xFF, &[]), [0x02, 0x04, 0xFF].as_slice()),
+        (tick(), [0x03].as_slice()),
     ];
     for (entry, octets) in rows {
         assert_eq!(rt; Controller::encode_entry(&entry).as_slice(), octets);
@@ -206,7 +339,7 @@ fn an_entry_has_its_octets(rt: HostRuntime) {
         [0x02; 68].as_slice(),
         [0x01; 16].as_slice(),
         [0x01; 18].as_slice(),
-        [0x03].as_slice(),
+        [0x03, 0x00].as_slice(),
         [0x05; 8].as_slice(),
         [0x05; 10].as_slice(),
         [0x06, 0x00].as_slice(),

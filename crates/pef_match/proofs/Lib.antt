@@ -1,3 +1,10 @@
+pub mod Rows
 pub mod Bits
+pub mod Strings
+pub mod Alarms
+pub mod Sets
+pub mod Targets
 pub mod Whole
+pub mod Named
 pub mod Examples
+pub mod AlertExamples

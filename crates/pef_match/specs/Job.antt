@@ -1,8 +1,8 @@
 -- The job of an event record, by the values of the parameters: IPMI 2.0, sections 17.6 (action priorities) and 17.7. The matching filters are
 -- selected from the table, and their action octets ANDed with parameter 2. Of the acts that they ask for one is done, the first in the
--- order power down, power cycle, reset, diagnostic interrupt; the OEM action is done beside it, which is this project's rule. Alerts aren't part of
--- a job yet, so the alert bit has no effect.
-use Rattle.std.specs.Prelude.{ℕ, zero, suc, ◌+◌, Bool, ◌==◌, List, [], ◌∷◌, map, filter, Option, Some, None, bit_and, if◌then◌else◌}
+-- order power down, power cycle, reset, diagnostic interrupt; the OEM action is done beside it, which is this project's rule. The alerts are
+-- those of `targets_of`.
+use Rattle.std.specs.Prelude.{ℕ, Bool, ◌==◌, List, map, filter, Option, Some, None, bit_and, if◌then◌else◌}
 use Rattle.std.specs.List.{list_any}
 use Rattle.std.specs.Int.{bit_at}
 use Rattle.board_core.specs.declared.step.Act.{Act}
@@ -10,13 +10,12 @@ use Rattle.board_core.specs.declared.step.Act.TheVariants.{PowerDown, PowerCycle
 use Rattle.event_record.specs.Fields.{octet}
 use Rattle.filter_table.specs.Entry.{actions}
 use Rattle.filter_table.specs.BitTest.{is_match}
+use Rattle.lan_dest.specs.declared.destination.Ports.{Ports}
+use Rattle.lan_dest.specs.Parameters.{Tables as LanTables}
 use Rattle.pef_config.specs.Places.{Sizes, Tables, Actions, filter_at}
+use Rattle.pef_match.specs.Alerts.{targets_of}
+use Rattle.pef_match.specs.Numbers.{numbers_from}
 use Rattle.pef_match.specs.Parts.{Parts}
-
--- so many numbers, from n on
-abbrev pub numbers_from : ℕ → ℕ → List ℕ
-numbers_from n zero = []
-numbers_from n (suc count) = n ∷ numbers_from (n + 1) count
 
 -- the filters of the table, from number 1 on
 unfoldable pub filters_in : Sizes → Tables → List (List ℕ)
@@ -44,10 +43,10 @@ act_by is_asked =
     else None
 
 -- the job of an event; bit 4 asks for the OEM action
-abbrev pub job : Sizes → Tables → List ℕ → Parts
-job sizes tables event = record {
+abbrev pub job : Sizes → Tables → LanTables → Ports → List ℕ → Parts
+job sizes tables lan ports event = record {
   act = act_by (has_bit (asked sizes tables event));
-  targets = [];
+  targets = targets_of sizes tables lan ports event;
   oem = has_bit (asked sizes tables event) 4;
   event = event;
 }

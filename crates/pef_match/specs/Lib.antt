@@ -1,2 +1,6 @@
+pub mod Numbers
+pub mod Texts
 pub mod Parts
+pub mod Alerts
 pub mod Job
+pub mod Promises

@@ -10,6 +10,8 @@ use event_record::Record;
 use filter_table::{Filter, matches};
 
 /// The bits of a filter's actions (IPMI 2.0, section 17.7), by their numbers.
+const ALERT: u8 = 0;
+
 const POWER_DOWN: u8 = 1;
 
 const RESET: u8 = 2;
@@ -64,6 +66,13 @@ pub(crate) fn has_oem(asked: u8) -> bool
     ensures { result ≡ (bit_at asked 4 == 1) }
 {
     is_asked(asked, OEM)
+}
+
+/// Whether an alert is among these actions.
+pub(crate) fn asks_for_alert(actions: u8) -> bool
+    ensures { result ≡ (bit_at actions 0 == 1) }
+{
+    is_asked(actions, ALERT)
 }
 
 /// Whether the action of this bit is among these actions.

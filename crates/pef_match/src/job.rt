@@ -1,5 +1,6 @@
 //! What is to be done for one event record.
-ghost use Rattle.std.specs.Prelude.{◌≡◌, ◌≤◌, length};
+ghost use Rattle.std.specs.Prelude.{◌≡◌, ◌≤◌, length, All};
+ghost use Rattle.pef_match.specs.Parts.{CanBeSent};
 
 use crate::target::Target;
 use arrayvec::ArrayVec;
@@ -8,7 +9,7 @@ use event_record::Record;
 use std::marker::Model;
 
 /// How many alerts a job has at most.
-const TARGETS: usize = 16;
+pub(crate) const TARGETS: usize = 16;
 
 /// What is to be done for one event record: at most one act, then at most 16 alerts, then the OEM action.
 #[derive(Drop)]
@@ -20,20 +21,22 @@ pub struct Job {
 }
 
 impl Model for Job {
-    ghost use Rattle.std.specs.Prelude.{◌≤◌, length};
-    ghost use Rattle.pef_match.specs.Parts.{Parts};
+    ghost use Rattle.std.specs.Prelude.{◌≤◌, length, All};
+    ghost use Rattle.pef_match.specs.Parts.{Parts, CanBeSent};
 
     ghost Value = { Parts };
 
     ghost view = { λ j. record { act = j.act; targets = j.targets.items; oem = j.oem; event = j.event } };
 
-    ghost invariant = { λ j. length j.targets.items ≤ 16 };
+    ghost invariant = { λ j. (length j.targets.items ≤ 16) × All CanBeSent j.targets.items };
 }
 
 impl Job {
-    /// The job with these parts. There are at most 16 alerts.
+    /// The job with these parts. There are at most 16 alerts, each with a policy of 0 to 4, a wait of 1 to 256 seconds
+    /// and at most 7 retries.
     pub fn new(act: Option<Act>, targets: &[Target], oem: bool, event: &Record) -> Job
-        requires { length targets.now ≤ 16 }
+        requires few { length targets.now ≤ 16 }
+        requires ready { All CanBeSent targets.now }
         ensures { result ≡ record { act = act; targets = targets.now; oem = oem; event = event.now } }
     {
         let mut held = ArrayVec::new();
@@ -59,6 +62,7 @@ impl Job {
     pub fn targets(&self) -> &[Target]
         ensures value { result.now ≡ self.now.targets }
         ensures within { length result.now ≤ 16 }
+        ensures ready { All CanBeSent result.now }
     {
         self.targets.as_slice()
     }

@@ -1,14 +1,20 @@
 //! The job of an event record: what its matching filters ask for.
 #![tactic(auto)]
 
+mod alarm;
+mod alerts;
 mod asked;
 mod job;
+mod laws;
 mod selecting;
 mod target;
 
 pub use job::Job;
+pub use laws::targets_law;
 pub use selecting::job_of;
 pub use target::Target;
 
+#[cfg(test)]
+mod alert_tests;
 #[cfg(test)]
 mod tests;

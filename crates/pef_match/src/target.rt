@@ -1,6 +1,8 @@
 //! One alert of a job.
 
-use board_core::Text;
+use board_core::{Address, Community, Text};
+use lan_dest::Destination;
+use policy_walk::Stop;
 
 /// An alert that a job is to send, for an entry of the alert policy table (IPMI 2.0, section 17.11).
 #[derive(Drop)]
@@ -9,6 +11,10 @@ pub struct Target {
     pub policy_number: u8,
     /// The number of the entry, from 1 on.
     pub entry: u8,
+    /// What the walk over the policy set knows of the entry.
+    pub stop: Stop,
+    /// Where the alert goes.
+    pub to: Destination,
     /// The severity that the alert tells.
     pub severity: u8,
     /// The text that the alert carries.
@@ -25,6 +31,8 @@ impl Target {
         Target {
             policy_number: self.policy_number,
             entry: self.entry,
+            stop: self.stop,
+            to: self.to.copy(),
             severity: self.severity,
             text: self.text.copy(),
         }
@@ -32,14 +40,28 @@ impl Target {
 }
 
 impl Default for Target {
-    ghost use Rattle.std.specs.Prelude.{◌≡◌, []};
+    ghost use Rattle.std.specs.Prelude.{◌≡◌, false, [], replicate};
 
     fn default() -> Target
-        ensures { result ≡ record { policy_number = 0; entry = 0; severity = 0; text = [] } }
+        ensures numbers { (result.policy_number ≡ 0) × (result.entry ≡ 0) × (result.severity ≡ 0) × (result.text ≡ []) }
+        ensures stop { result.stop ≡ record { policy = 0; channel = 0; kind = 0 } }
+        ensures to { result.to ≡ record { to = record { ip = replicate 4 0; port = 0 }; acknowledged = false; kind = 0; wait = 1; retries = 0; community = [] } }
     {
         Target {
             policy_number: 0,
             entry: 0,
+            stop: Stop::default(),
+            to: Destination {
+                to: Address {
+                    ip: [0; 4],
+                    port: 0,
+                },
+                acknowledged: false,
+                kind: 0,
+                wait: 1,
+                retries: 0,
+                community: Community::new(),
+            },
             severity: 0,
             text: Text::new(),
         }

@@ -2,8 +2,15 @@
 use super::*;
 use board_core::{Act, Text};
 use event_record::Record;
+use lan_dest::{Lan, Ports};
 use pef_config::{Config, Initial};
 use std::test::Fail;
+
+const PORTS: Ports = Ports {
+    pet: 162,
+    oem1: 1006,
+    oem2: 1007,
+};
 
 /// A system event of sensor type 04h with event data 52h, 10h and 20h.
 const EVENT: [u8; 16] = [
@@ -102,7 +109,7 @@ fn one_act_by_priority_and_the_oem_action(rt: HostRuntime) -> Result<(), Fail> {
             filter_write(first.0, first.1, first.2),
             filter_write(second.0, second.1, second.2),
         ];
-        let job = job_of(&config_with(mask, &writes), &event);
+        let job = job_of(&config_with(mask, &writes), &Lan::new(), &PORTS, &event);
         assert_eq!(rt;
             (job.act(), job.oem()),
             (act, oem),
@@ -122,7 +129,7 @@ fn other_records_ask_for_nothing(rt: HostRuntime) -> Result<(), Fail> {
         let mut octets = EVENT;
         assert!(rt; place < octets.len());
         octets[place] = octet;
-        let job = job_of(&config, &Record::read(&octets)?);
+        let job = job_of(&config, &Lan::new(), &PORTS, &Record::read(&octets)?);
         assert_eq!(rt; (job.act(), job.oem()), (None, false), "{place} {octet}");
     }
     Ok(())
@@ -133,15 +140,14 @@ fn a_job_has_its_parts(rt: HostRuntime) -> Result<(), Fail> {
     let event = Record::read(&EVENT)?;
     let mut text = Text::new();
     assert!(rt; text.extend(b"fan"));
-    let alerts = [
-        Target {
-            policy_number: 1,
-            entry: 2,
-            severity: 0x10,
-            text,
-        },
-        Target::default(),
-    ];
+    let first = Target {
+        policy_number: 1,
+        entry: 2,
+        severity: 0x10,
+        text,
+        ..Target::default()
+    };
+    let alerts = [first, Target::default()];
     let job = Job::new(Some(Act::Reset), &alerts, true, &event);
     assert_eq!(rt;
         (job.act(), job.oem(), job.targets().len()),

@@ -1,2 +1,2 @@
-pub mod SettingsLemmas
-mod Examples
+pub mod Reading
+pub mod Guids

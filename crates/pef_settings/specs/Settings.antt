@@ -1,43 +1,61 @@
--- A controller's settings: the kind of its file, the settings octets, and the text that gives them.
-use Rattle.std.specs.Prelude.{◌≡◌, ◌⊎◌, ℕ, bytes_eq, codes, if◌then◌else◌, List, [], ◌∷◌, ◌++◌, drop, replicate, Option, Some, None, Result, Ok, Err}
-use Rattle.hex.specs.Hex.{decode_sized}
-use Rattle.hex.specs.declared.error.FromHexError.{FromHexError}
+-- A controller's settings: the kind of its state file, and the settings octets that a text gives. The document and the order of
+-- the octets are this project's own; what they set is in IPMI 2.0 (GUID: section 20.8; PEF parameters: section 30.3) and PET 1.0.
+use Rattle.std.specs.Prelude.{ℕ, List, [], ◌∷◌, option_map, replicate, Option, None, Result}
+use Rattle.std.specs.Int.{to_le_bytes, w16, w32}
 use Rattle.pef_journal.specs.declared.kind.FileKind.{FileKind}
-use Rattle.script_text.specs.Lines.{without_last}
+use Rattle.report_line.specs.declared.refusal.SettingsKey.TheVariants.{Guid, Agent, Manufacturer, System, PetPort, Oem1Port, Oem2Port, Control, Actions, Delay, Filter}
+use Rattle.report_line.specs.declared.refusal.SettingsRefusal.{SettingsRefusal}
+use Rattle.script_text.specs.Forms.{ip_of, octets_exactly}
+use Rattle.settings_document.specs.Document.{Field, field, settings_by}
+use Rattle.settings_document.specs.Values.{required, or_default, number_or}
+use Rattle.toml.specs.Data.{Data, string}
+use Rattle.uuid.specs.Text.{parsed}
 
 -- the kind of a controller's state file
 abbrev pub controller : FileKind
 controller = record { number = 1; settings = 55 }
 
--- The 55 settings octets: system GUID, agent address, manufacturer ID and system ID are 0 each, the trap port and the two
--- OEM alert ports are 162, PEF control is 01h, the PEF action control mask 3Fh, the startup delay 0 (parameters of IPMI 2.0,
--- chapter 30; the values and their order are this project's), and then comes the filter.
-abbrev pub settings_octets : List ℕ → List ℕ
-settings_octets filter =
-    replicate 16 0 ++ replicate 4 0 ++ replicate 4 0 ++ replicate 2 0
-    ++ (162 ∷ 0 ∷ []) ++ (162 ∷ 0 ∷ []) ++ (162 ∷ 0 ∷ [])
-    ++ (1 ∷ 63 ∷ 0 ∷ []) ++ filter
+-- a string that is a GUID, in each form that a UUID's text may have
+abbrev pub guid_in : Data → Option (List ℕ)
+guid_in (string text) = parsed text
+guid_in other = None
 
--- the line that names a filter
-abbrev pub settings_line : List ℕ → List ℕ
-settings_line digits = codes "filter = \"" ++ digits ++ codes "\""
+-- a string that is an IPv4 address
+abbrev pub agent_in : Data → Option (List ℕ)
+agent_in (string text) = ip_of text
+agent_in other = None
 
--- a text is that line, with or without 0Ah at its end, and names a filter by 40 hexadecimal digits of either case
-abbrev pub SpellsSettings : List ℕ → List ℕ → Type 0
-SpellsSettings filter text =
-    (digits : List ℕ) × (decode_sized digits 20 ≡ Ok filter) × ((text ≡ settings_line digits) ⊎ (text ≡ settings_line digits ++ 10 ∷ []))
+-- a string of 40 hexadecimal digits
+abbrev pub filter_in : Data → Option (List ℕ)
+filter_in (string text) = octets_exactly 20 text
+filter_in other = None
 
--- what stands between the quotes of such a line
-abbrev pub quoted : List ℕ → List ℕ
-quoted line = without_last 34 (drop 10 line)
+-- whole numbers of four octets, of two and of one, the least significant octet first, with what they are where the key is missing
+abbrev pub four_octets : ℕ → Option Data → Option (List ℕ)
+four_octets default at = option_map (to_le_bytes w32) (number_or default 4294967295 at)
 
-abbrev pub settings_with : Result (List ℕ) FromHexError → Option (List ℕ)
-settings_with (Ok filter) = Some (settings_octets filter)
-settings_with (Err e) = None
+abbrev pub two_octets : ℕ → Option Data → Option (List ℕ)
+two_octets default at = option_map (to_le_bytes w16) (number_or default 65535 at)
 
-abbrev pub settings_of_line : List ℕ → Option (List ℕ)
-settings_of_line line = if bytes_eq line (settings_line (quoted line)) then settings_with (decode_sized (quoted line) 20) else None
+abbrev pub one_octet : ℕ → Option Data → Option (List ℕ)
+one_octet default at = option_map (λ n. n ∷ []) (number_or default 255 at)
 
--- the settings octets that a text gives, where it is a settings text
-abbrev pub settings_of : List ℕ → Option (List ℕ)
-settings_of text = settings_of_line (without_last 10 text)
+-- The keys, in the order of the 55 settings octets: the GUID and the agent address are required, and every other key has a default.
+abbrev pub fields : List Field
+fields =
+    field Guid (required guid_in)
+    ∷ field Agent (required agent_in)
+    ∷ field Manufacturer (four_octets 0)
+    ∷ field System (two_octets 0)
+    ∷ field PetPort (two_octets 162)
+    ∷ field Oem1Port (two_octets 162)
+    ∷ field Oem2Port (two_octets 162)
+    ∷ field Control (one_octet 1)
+    ∷ field Actions (one_octet 63)
+    ∷ field Delay (one_octet 0)
+    ∷ field Filter (or_default (replicate 20 0) filter_in)
+    ∷ []
+
+-- the settings octets that a text gives, or why it is refused
+abbrev pub settings_of : List ℕ → Result (List ℕ) SettingsRefusal
+settings_of text = settings_by fields text

@@ -1,11 +1,22 @@
-//! The settings octets, their places and defaults.
-ghost use Rattle.std.specs.Prelude.{◌≡◌};
-ghost use Rattle.pef_settings.specs.Settings.{settings_octets};
-
+//! How many settings octets a controller's file has, and the places of some of them.
 use pef_journal::FileKind;
 
 /// How many octets of settings a controller's state file has.
 pub const SETTINGS: usize = 55;
+
+/// The places of agent address, manufacturer ID and system ID among them; the system GUID has the first 16.
+pub const AGENT: usize = 16;
+
+pub const MANUFACTURER: usize = 20;
+
+pub const SYSTEM: usize = 24;
+
+/// The places of the ports of the destination types 0, 6 and 7.
+pub const PET_PORT: usize = 26;
+
+pub const OEM1_PORT: usize = 28;
+
+pub const OEM2_PORT: usize = 30;
 
 /// The places of the initial PEF control, action control mask and startup delay among them.
 pub const CONTROL: usize = 32;
@@ -21,20 +32,3 @@ pub const KIND: FileKind = FileKind {
     number: 1,
     settings: SETTINGS,
 };
-
-// What stands before the filter: system GUID, agent address, manufacturer ID, system ID, three ports (each with its low
-// octet first), PEF control, action control mask and startup delay.
-const DEFAULTS: [u8; FILTER] = [
-    0, 0, 0, 0, 0, 0, 0, 0, 0, 0, 0, 0, 0, 0, 0, 0, 0, 0, 0, 0, 0, 0, 0, 0, 0, 0, 162, 0, 162, 0,
-    162, 0, 1, 63, 0,
-];
-
-/// The settings with this filter and else the defaults.
-pub(crate) fn octets_of(filter: &[u8; 20]) -> [u8; SETTINGS]
-    ensures { result ≡ settings_octets filter.now }
-{
-    let mut octets = [0u8; SETTINGS];
-    octets[..FILTER].copy_from_slice(&DEFAULTS);
-    octets[FILTER..].copy_from_slice(filter);
-    octets
-}

@@ -1,12 +1,15 @@
-//! The settings of a controller's state file: its kind, their layout, their defaults and the text that gives them.
+//! The settings of a controller's state file: its kind, the keys of the document that gives them, and their layout.
 #![tactic(auto)]
 
-mod laws;
+mod keys;
 mod layout;
+mod settings;
 mod text;
 
-pub use laws::settings_spelled;
-pub use layout::{ACTIONS, CONTROL, DELAY, FILTER, KIND, SETTINGS};
+pub use layout::{
+    ACTIONS, AGENT, CONTROL, DELAY, FILTER, KIND, MANUFACTURER, OEM1_PORT, OEM2_PORT, PET_PORT,
+    SETTINGS, SYSTEM,
+};
 pub use text::ControllerSettings;
 
 #[cfg(test)]

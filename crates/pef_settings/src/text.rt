@@ -1,17 +1,33 @@
-//! The settings text: one line that names the filter.
-ghost use Rattle.std.specs.Prelude.{◌≡◌, ◌≢◌, List, ℕ, MatchOption};
-ghost use Rattle.pef_settings.specs.Settings.{controller, settings_of, settings_line};
-ghost use Rattle.pef_settings.specs.Laws.{long_gives};
+//! The settings text.
+ghost use Rattle.std.specs.Prelude.{◌≡◌, length, Ok, IfOk};
+ghost use Rattle.toml.specs.View.{table_view};
+ghost use Rattle.settings_document.specs.Document.{settings_in};
+ghost use Rattle.pef_settings.specs.Settings.{controller, fields, settings_of};
+ghost use Rattle.settings_document.specs.Laws.{long_refused};
 
-use crate::layout::{KIND, SETTINGS, octets_of};
-use board_core::Bytes;
-use hex::decode_to_slice;
+use crate::keys::{KEYS, read_keys};
+use crate::layout::KIND;
 use pef_journal::FileKind;
-use script_text::{SettingsFault, SettingsOctets, SettingsText, without_last};
+use report_line::SettingsRefusal;
+use script_text::{SettingsFault, SettingsOctets, SettingsText};
+use settings_document::{has_only, read_document};
 use std::alloc::Global;
+use toml::Table;
 
-/// A controller's settings: the filter of the line `filter = "<40 hexadecimal digits>"`, with or without 0Ah at its end, and else
-/// the defaults.
+/// A controller's settings: a TOML document in UTF-8 of at most 65,536 octets, with these keys and no others.
+///
+/// | key | value | if missing |
+/// | --- | --- | --- |
+/// | `guid` | a string: the system's GUID, in each form that `uuid` reads | refused |
+/// | `agent` | a string: an IPv4 address, the agent that sends traps | refused |
+/// | `manufacturer` | a whole number of 0 to 4,294,967,295 | 0 |
+/// | `system` | a whole number of 0 to 65,535 | 0 |
+/// | `pet_port`, `oem1_port`, `oem2_port` | a whole number of 0 to 65,535 | 162 |
+/// | `control`, `actions`, `delay` | a whole number of 0 to 255 | 1, 63, 0 |
+/// | `filter` | a string of 40 hexadecimal digits: event filter 1 | 40 zeros |
+///
+/// A key is refused where it is missing though it is required, or has another value: the first in this order. Another key is
+/// refused where none of these is.
 pub struct ControllerSettings;
 
 impl SettingsText for ControllerSettings {
@@ -19,38 +35,29 @@ impl SettingsText for ControllerSettings {
 
     ghost settings_of = { settings_of };
 
-    ghost bounded = { long_gives };
+    ghost bounded = { long_refused fields };
 
     fn kind() -> FileKind {
         KIND
     }
 
-    fn read(_alloc: Global, text: &[u8]) -> Result<SettingsOctets, SettingsFault> {
-        let Some(octets) = octets_in(text) else {
-            return Err(SettingsFault::Refused);
-        };
-        let mut settings = Bytes::new();
-        let _ = settings.extend(&octets);
-        Ok(settings)
+    fn read(alloc: Global, text: &[u8]) -> Result<SettingsOctets, SettingsFault> {
+        let document = read_document(alloc, text)?;
+        match settings_in(&document) {
+            Ok(settings) => Ok(settings),
+            Err(refusal) => Err(SettingsFault::Refused(refusal)),
+        }
     }
 }
 
-/// The settings octets that a text gives, and None where it isn't that line.
-fn octets_in(text: &[u8]) -> Option<[u8; SETTINGS]>
-    ensures { result ≡ settings_of text.now }
+// The settings octets that a document gives, or why it is refused.
+fn settings_in(document: &Table) -> Result<SettingsOctets, SettingsRefusal>
+    ensures given { result ≡ settings_in fields (Ok (table_view document.now)) }
+    ensures long { IfOk result (λ settings. length settings ≡ 55) }
 {
-    let digits = quoted(without_last(text, b'\n'))?;
-    let mut filter = [0u8; 20];
-    match decode_to_slice(digits, &mut filter) {
-        Ok(()) => Some(octets_of(&filter)),
-        Err(_) => None,
+    let settings = read_keys(document)?;
+    if !has_only(document, &KEYS) {
+        return Err(SettingsRefusal::Unknown);
     }
-}
-
-// What stands between the quotes.
-fn quoted(line: &[u8]) -> Option<&[u8]>
-    ensures { MatchOption result ((digits : List ℕ) → line.now ≢ settings_line digits) (λ digits. line.now ≡ settings_line digits.now) }
-{
-    let rest = line.strip_prefix(b"filter = \"".as_slice())?;
-    rest.strip_suffix(b"\"".as_slice())
+    Ok(settings.octets())
 }

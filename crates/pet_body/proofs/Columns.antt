@@ -1,6 +1,6 @@
 -- The columns of a body and its layout give each other back.
-use Rattle.std.proofs.Common.{◌≡◌, ℕ, ◌<◌, ◌≤◌, List, [], ◌∷◌, ◌++◌, length, drop, refl, ◌∙◌, arith}
-use Rattle.std.proofs.lemmas.List.{append-nil}
+use Rattle.std.proofs.Common.{◌≡◌, ℕ, ◌+◌, ◌<◌, ◌≤◌, List, [], ◌∷◌, ◌++◌, length, drop, refl, ap, ◌∙◌, arith}
+use Rattle.std.proofs.lemmas.List.{length-append, append-nil}
 use Rattle.byteorder.specs.Endian.{big_bytes}
 use Rattle.pet_body.specs.declared.body.Body.{Body}
 use Rattle.pet_body.specs.Layout.{layout, body_in, octet_of, octets_of, number_of}
@@ -86,3 +86,21 @@ layout_read octets body typed laid =
     let system : number_of 45 46 octets ≡ body.system = number_at octets 44 2 body.system from46 typed.system at44 in
     let tail : drop 46 octets ≡ body.tail = at46 ∙ append-nil body.tail in
     rw (guid, sequence, timestamp, utc, trap_source, event_source, severity, device, sensor, entity, instance, event_data, language, manufacturer, system, tail) refl
+
+-- 46 octets stand before the tail
+pub length-layout : (body : Body) → length body.guid ≡ 16 → length body.event_data ≡ 8 → length (layout body) ≡ 46 + length body.tail
+length-layout body sixteen eight =
+    let sources : List ℕ = body.trap_source ∷ body.event_source ∷ body.severity ∷ body.device ∷ body.sensor ∷ body.entity ∷ body.instance ∷ [] in
+    let middle : List ℕ = big_bytes 2 body.sequence ++ (big_bytes 4 body.timestamp ++ (big_bytes 2 body.utc ++ sources)) in
+    let last : List ℕ = body.language ∷ big_bytes 4 body.manufacturer ++ big_bytes 2 body.system in
+    let middle_length : length middle ≡ 15 = refl in
+    let last_length : length last ≡ 7 = refl in
+    let parts : length (layout body) ≡ length (body.guid ++ (middle ++ (body.event_data ++ (last ++ (body.tail ++ []))))) = refl in
+    omega (
+      arith,
+      length-append body.guid (middle ++ (body.event_data ++ (last ++ (body.tail ++ [])))),
+      length-append middle (body.event_data ++ (last ++ (body.tail ++ []))),
+      length-append body.event_data (last ++ (body.tail ++ [])),
+      length-append last (body.tail ++ []),
+      ap length (append-nil body.tail),
+    )

@@ -1,6 +1,6 @@
 //! The body and the specific number of an event.
 
-ghost use Rattle.std.specs.Prelude.{◌≡◌, option_copied};
+ghost use Rattle.std.specs.Prelude.{◌≡◌, ◌^◌, ◌<◌, option_copied};
 ghost use Rattle.pet_body.specs.Event.{local_time, body_for, specific_for};
 
 use crate::body::Body;
@@ -82,7 +82,8 @@ pub fn body_of(
 /// The specific trap number of an event: its sensor type, event type and offset, with bit 7 of
 /// the last octet for a deassertion. 0 for an alert without a record.
 pub fn specific_of(event: Option<&Record>) -> u32
-    ensures { result ≡ specific_for (option_copied event.entry) }
+    ensures number { result ≡ specific_for (option_copied event.entry) }
+    ensures three_octets { result < 2 ^ 24 }
 {
     match event {
         Some(event) => {

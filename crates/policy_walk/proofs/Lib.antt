@@ -1,5 +1,6 @@
 pub mod Passing
 pub mod Growing
 pub mod Reached
+pub mod Allowed
 pub mod Examples
 pub mod Renamed

@@ -3,3 +3,4 @@ pub mod Tried
 pub mod First
 pub mod Place
 pub mod Standing
+pub mod Promises

@@ -2,9 +2,11 @@
 #![tactic(auto)]
 
 mod after;
+mod laws;
 mod stop;
 mod walk;
 
+pub use laws::policy_law;
 pub use stop::Stop;
 pub use walk::{STOPS, Walk};
 

@@ -1,5 +1,5 @@
 //! A walk over a policy set.
-ghost use Rattle.std.specs.Prelude.{◌≡◌, ◌+◌, ◌<◌, ◌≤◌, ◌++◌, [], ◌∷◌, List, Bool, length, drop, All, IsSome, nat_lt, if◌then◌else◌};
+ghost use Rattle.std.specs.Prelude.{◌≡◌, ◌+◌, ◌<◌, ◌≤◌, ◌++◌, ℕ, [], ◌∷◌, List, Bool, Some, length, drop, All, IsSome, nat_lt, if◌then◌else◌};
 ghost use Rattle.std.specs.Option.{ForSome};
 ghost use Rattle.policy_walk.specs.Tried.{Any, place_after};
 ghost use Rattle.policy_walk.specs.First.{first_tried};
@@ -72,8 +72,14 @@ impl Walk {
     /// Tells whether the alert to the current stop succeeded, and goes on to the next.
     pub fn told(&mut self, success: bool)
         requires { IsSome self.old.current }
-        ensures { (stops : List Stop) → (results : List Bool) → StandsAfter stops results self.old
+        ensures after { (stops : List Stop) → (results : List Bool) → StandsAfter stops results self.old
             → StandsAfter stops (results ++ success ∷ []) self.new }
+        ensures stops { self.new.stops ≡ self.old.stops }
+
+        // Where it goes hangs on the current stop and on this result alone.
+        ensures next { (place : ℕ) → self.old.current ≡ Some place
+            → self.new.current ≡ first_tried Any success (place + 1) (drop (place + 1) self.old.stops) }
+        ensures within { ForSome self.new.current (λ next. next < length self.old.stops) }
     {
         if let Some(place) = self.current {
             self.current = next(self.stops.as_slice(), place, success);

@@ -2,7 +2,7 @@
 use Rattle.std.proofs.Common.{◌≡◌, ℕ, ◌+◌, ◌-◌, ◌≤◌, List, take, drop, sym, ◌∙◌, ap, arith}
 use Rattle.std.proofs.lemmas.List.{drop-take, take-take, drop-drop}
 
--- what lies within the first so many octets is the same where only those are kept
+-- what lies within the first octets is the same where only those are kept
 within : (xs : List ℕ) (first count kept : ℕ) → first + count ≤ kept → take count (drop first (take kept xs)) ≡ take count (drop first xs)
 within xs first count kept le =
     let rest : first + (kept - first) ≡ kept = omega (arith, le) in

@@ -7,6 +7,6 @@ use Rattle.read_ahead.specs.declared.read_ahead.ReadAhead.{ReadAhead}
 abbrev pub KnowsEnd : {B : Type 0} {b : _} → ReadAhead B b → Type 0
 KnowsEnd ahead = IsSome ahead.end
 
--- so many octets from this place of the file on
+-- this number of octets, from this place of the file on
 abbrev pub Keeps : {B : Type 0} {b : _} → ReadAhead B b → ℕ → ℕ → Type 0
 Keeps ahead place count = HasRange ahead.window place count

@@ -15,7 +15,7 @@ pub record IsRange (place count : ℕ) (window : Window) : Type 0 where
   pub place_is : window.place ≡ place
   pub count_is : window.count ≡ count
 
--- so many octets from this place of the file on are among them
+-- this number of octets, from this place of the file on, is among them
 pub record HasRange (window : Window) (place count : ℕ) : Type 0 where
   pub start : window.place ≤ place
   pub end : place + count ≤ window.place + window.count

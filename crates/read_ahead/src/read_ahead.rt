@@ -62,7 +62,7 @@ impl<B: Board> ReadAhead<B> {
         Ok(end)
     }
 
-    // Moves the window to a place. False where it has no room for so many octets, or the file ends before.
+    // Moves the window to a place. False where it has no room for this number of octets, or the file ends before.
     fn move_to(&mut self, place: u64, count: usize) -> Result<bool, DiskFailed>
         ensures moved { IfOk result (λ moved. moved ≡ true → Keeps self.new place count) }
         ensures ahead { IsTrue (B.view self.new.board).tells → HasRoomFor (B.view self.old.board) (place + count) → count ≤ 8192 →

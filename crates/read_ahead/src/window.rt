@@ -36,7 +36,7 @@ impl Window {
         })
     }
 
-    /// True where so many octets from a place of the file on are kept.
+    /// True where this number of octets, from a place of the file on, is kept.
     pub fn holds(&self, place: u64, count: usize) -> bool
         ensures { IsTrue result ↔ HasRange self.now place count }
     {
@@ -65,7 +65,7 @@ impl Window {
         self.count = 0;
     }
 
-    /// Reads so many octets from a place of the board's file on, and keeps them alone. At Err none is kept.
+    /// Reads this number of octets, from a place of the board's file on, and keeps them alone. At Err none is kept.
     pub fn fill<B: Board>(
         &mut self,
         board: &mut B,
@@ -88,7 +88,7 @@ impl Window {
     }
 }
 
-// Reads so many octets from a place of the board's file on, and puts them first into `row`.
+// Reads this number of octets, from a place of the board's file on, and puts them first into `row`.
 fn read_front<B: Board>(
     board: &mut B,
     place: u64,

@@ -4,6 +4,7 @@ ghost use Rattle.report_line.specs.Line.{line_end};
 ghost use Rattle.report_line.specs.Ending.{status_of, last_line};
 
 use crate::builder::{LineBuilder, ReportLine};
+use crate::refusal::SettingsRefusal;
 
 /// How a call of the program ends.
 #[derive(Clone, Copy, Debug, PartialEq, Eq)]
@@ -16,8 +17,8 @@ pub enum Ending {
     Unformatted,
     /// This line is the first bad one, counted from 1.
     Line(u32),
-    /// The settings text is refused.
-    Settings,
+    /// The settings text is refused, and why.
+    Settings(SettingsRefusal),
     /// Another script was begun and isn't finished: its ID and its count.
     Unfinished { id: u32, count: u32 },
     /// What was to be read could not be read.
@@ -43,7 +44,7 @@ pub fn status(ending: Ending) -> u8
         Ending::Usage => 2,
         Ending::Unformatted => 3,
         Ending::Line(_) => 4,
-        Ending::Settings => 4,
+        Ending::Settings(_) => 4,
         Ending::Unfinished { .. } => 5,
         Ending::Input => 6,
         Ending::Disk => 7,
@@ -63,7 +64,7 @@ pub fn last_line(ending: Ending) -> ReportLine
         Ending::Usage => words(b"usage"),
         Ending::Unformatted => words(b"unformatted"),
         Ending::Line(number) => numbered(b"line ", number),
-        Ending::Settings => words(b"settings text"),
+        Ending::Settings(refusal) => refused(refusal),
         Ending::Unfinished { id, count } => unfinished(id, count),
         Ending::Input => words(b"input failed"),
         Ending::Disk => words(b"disk failed"),
@@ -86,6 +87,15 @@ fn numbered(text: &[u8], number: u32) -> ReportLine
     ensures { result ≡ text.now ++ decimal number ++ line_end }
 {
     LineBuilder::new().text(text).decimal(number).end()
+}
+
+fn refused(refusal: SettingsRefusal) -> ReportLine
+    ensures { result ≡ last_line (Ending.Settings refusal) }
+{
+    LineBuilder::new()
+        .text(b"settings ")
+        .text(refusal.word().as_bytes())
+        .end()
 }
 
 fn unfinished(id: u32, count: u32) -> ReportLine

@@ -96,14 +96,31 @@ fn a_line_is_its_parts_and_its_end(rt: HostRuntime) {
 }
 
 // Each ending with its status, its status where the last line can't be written, and that line.
-const ENDINGS: [(Ending, u8, u8, &str); 14] = [
+const ENDINGS: [(Ending, u8, u8, &str); 16] = [
     (Ending::Done { count: 0 }, 0, 8, "ok 0\n"),
     (Ending::Done { count: 1_000_000 }, 0, 8, "ok 1000000\n"),
     (Ending::Usage, 2, 2, "usage\n"),
     (Ending::Unformatted, 3, 3, "unformatted\n"),
     (Ending::Line(1), 4, 4, "line 1\n"),
     (Ending::Line(1_000_002), 4, 4, "line 1000002\n"),
-    (Ending::Settings, 4, 4, "settings text\n"),
+    (
+        Ending::Settings(SettingsRefusal::Long),
+        4,
+        4,
+        "settings long\n",
+    ),
+    (
+        Ending::Settings(SettingsRefusal::Text),
+        4,
+        4,
+        "settings text\n",
+    ),
+    (
+        Ending::Settings(SettingsRefusal::Unknown),
+        4,
+        4,
+        "settings unknown\n",
+    ),
     (
         Ending::Unfinished { id: 10, count: 7 },
         5,
@@ -117,6 +134,28 @@ const ENDINGS: [(Ending, u8, u8, &str); 14] = [
     (Ending::Memory, 10, 10, "memory\n"),
     (Ending::Formatted, 11, 11, "formatted\n"),
 ];
+
+#[test]
+fn a_refused_key_is_named(rt: HostRuntime) {
+    let keys = [
+        (SettingsKey::Guid, "settings guid\n"),
+        (SettingsKey::Agent, "settings agent\n"),
+        (SettingsKey::Manufacturer, "settings manufacturer\n"),
+        (SettingsKey::System, "settings system\n"),
+        (SettingsKey::PetPort, "settings pet_port\n"),
+        (SettingsKey::Oem1Port, "settings oem1_port\n"),
+        (SettingsKey::Oem2Port, "settings oem2_port\n"),
+        (SettingsKey::Control, "settings control\n"),
+        (SettingsKey::Actions, "settings actions\n"),
+        (SettingsKey::Delay, "settings delay\n"),
+        (SettingsKey::Filter, "settings filter\n"),
+        (SettingsKey::AckPort, "settings ack_port\n"),
+    ];
+    for (key, line) in keys {
+        let ending = Ending::Settings(SettingsRefusal::Key(key));
+        assert_eq!(rt; last_line(ending).as_slice(), line.as_bytes(), "{line}");
+    }
+}
 
 #[test]
 fn a_call_ends_with_its_status_and_last_line(rt: HostRuntime) {

@@ -74,7 +74,7 @@ by_end k Z H text old new Output part a may is = inr (inr (inr (inr refl)))
 by_end k Z H text old new Memory part a may is = inr (inl refl)
 by_end k Z H text old new Full part a may is = absurd (⊎_elim (λ lacks. let l = lacks_of k Z H _ a.stores.rest a.stores.entries a.stores.lawful a.stores.taken lacks in may.room l.0 l.1) may.none_over (a.stores.full refl))
 by_end k Z H text old new Usage part a may is = absurd is
-by_end k Z H text old new Settings part a may is = absurd is
+by_end k Z H text old new (Settings refusal) part a may is = absurd is
 by_end k Z H text old new Formatted part a may is = absurd is
 
 -- the part of the last line that was written, with what else the sink says
@@ -103,7 +103,7 @@ status_zero Output mid new before after f = absurd (⊎_elim (λ x. omega (arith
 status_zero Full mid new before after f = absurd (⊎_elim (λ x. omega (arith, x.1)) (λ x. omega (arith, x.1)) f)
 status_zero Memory mid new before after f = absurd (⊎_elim (λ x. omega (arith, x.1)) (λ x. omega (arith, x.1)) f)
 status_zero Usage mid new before after f = absurd (⊎_elim (λ x. omega (arith, x.1)) (λ x. omega (arith, x.1)) f)
-status_zero Settings mid new before after f = absurd (⊎_elim (λ x. omega (arith, x.1)) (λ x. omega (arith, x.1)) f)
+status_zero (Settings refusal) mid new before after f = absurd (⊎_elim (λ x. omega (arith, x.1)) (λ x. omega (arith, x.1)) f)
 status_zero Formatted mid new before after f = absurd (⊎_elim (λ x. omega (arith, x.1)) (λ x. omega (arith, x.1)) f)
 
 pub done_ends : (count : ℕ) (part : List ℕ) (before after status : ℕ) → EndsWith (Done count) part before after status → (status ≡ 0) ⊎ Rose before after

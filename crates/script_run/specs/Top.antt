@@ -161,7 +161,7 @@ MayRefuse k file other = ⊥
 -- how a run may end
 abbrev pub IsRunEnd : Ending → Type 0
 IsRunEnd Usage = ⊥
-IsRunEnd Settings = ⊥
+IsRunEnd (Settings refusal) = ⊥
 IsRunEnd Formatted = ⊥
 IsRunEnd other = ⊤
 

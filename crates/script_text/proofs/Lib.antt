@@ -1,4 +1,5 @@
 pub mod Read
+pub mod Pieces
 pub mod LinesLemmas
 pub mod WordLemmas
 pub mod Spelling

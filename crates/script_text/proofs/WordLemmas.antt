@@ -5,7 +5,7 @@ use Rattle.std.proofs.lemmas.Bool.Decides.{nat_tests}
 use Rattle.std.proofs.lemmas.List.Quantifiers.{position-Some}
 use Rattle.std.proofs.lemmas.List.Sums.{fails_before_first}
 use Rattle.script_text.specs.Lines.{onto_first}
-use Rattle.script_text.specs.Forms.{parts_of, words_of, onto_words, value_from, decimal_of, are_digits, address_of_numbers, address_of_parts, address_of}
+use Rattle.script_text.specs.Forms.{parts_of, words_of, onto_words, value_from, decimal_of, are_digits, ip_of_parts, ip_of, address_of_parts, address_of}
 use Rattle.script_text.specs.Script.{head_of_words, head_of}
 
 onto_some : (b : ℕ) (parts : List (List ℕ)) → onto_words [] (onto_first b parts) ≡ onto_first b parts
@@ -75,10 +75,10 @@ no_head word line first id count two three one next more =
     by false none = refl
 
 -- nor do five numbers make an address, or two ports
-pub five_numbers : (ip a b c d two three four : List ℕ) (port : Option ℕ) → parts_of 46 ip ≡ a ∷ parts_of 46 two → parts_of 46 two ≡ b ∷ parts_of 46 three → parts_of 46 three ≡ c ∷ parts_of 46 four
-    → HasMore 46 d four → None ≡ address_of_numbers (parts_of 46 ip) port
-five_numbers ip a b c d two three four port one next third more =
-    ap (λ p. address_of_numbers p port) (sym (one ∙ ap (λ w. a ∷ w) next ∙ ap (λ w. a ∷ b ∷ w) third ∙ ap (λ w. a ∷ b ∷ c ∷ w) more.parts))
+pub five_numbers : (ip a b c d two three four : List ℕ) → parts_of 46 ip ≡ a ∷ parts_of 46 two → parts_of 46 two ≡ b ∷ parts_of 46 three → parts_of 46 three ≡ c ∷ parts_of 46 four
+    → HasMore 46 d four → None ≡ ip_of ip
+five_numbers ip a b c d two three four one next third more =
+    ap ip_of_parts (sym (one ∙ ap (λ w. a ∷ w) next ∙ ap (λ w. a ∷ b ∷ w) third ∙ ap (λ w. a ∷ b ∷ c ∷ w) more.parts))
 
 pub two_ports : (word ip port behind : List ℕ) → parts_of 58 word ≡ ip ∷ parts_of 58 behind → HasMore 58 port behind → None ≡ address_of word
 two_ports word ip port behind one more = ap address_of_parts (sym (one ∙ ap (λ w. ip ∷ w) more.parts))

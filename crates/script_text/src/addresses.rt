@@ -1,14 +1,12 @@
-// IPv4 addresses with a port.
-ghost use Rattle.std.specs.Prelude.{◌≡◌, ◌≤◌};
-ghost use Rattle.std.specs.Option.{ForSome};
-ghost use Rattle.script_text.specs.Forms.{parts_of, ip_number, address_of, address_of_numbers};
+// IPv4 addresses, alone and with a port.
+ghost use Rattle.std.specs.Prelude.{◌≡◌};
+ghost use Rattle.script_text.specs.Forms.{ip_number, ip_of, address_of};
 
 use crate::numbers::decimal;
 use crate::words::first_part;
 use board_core::Address;
 
-/// Four decimal numbers of 0 to 255 with points, of 1 to 3 digits each, a colon and a port of 0 to 65,535, of 1 to 5 digits. A
-/// number may begin with zeros.
+/// An IPv4 address, a colon and a port of 0 to 65,535, of 1 to 5 digits, which may begin with zeros.
 pub fn address(word: &[u8]) -> Option<Address>
     ensures { result ≡ address_of word.now }
 {
@@ -17,25 +15,23 @@ pub fn address(word: &[u8]) -> Option<Address>
     if more.is_some() {
         return None;
     }
-    with_port(ip, decimal(port, 5, 65_535))
+    let ip = ipv4(ip)?;
+    let port = decimal(port, 5, 65_535)? as u16;
+    Some(Address { ip, port })
 }
 
-fn with_port(ip: &[u8], port: Option<u32>) -> Option<Address>
-    requires { ForSome port (λ port. port ≤ 65535) }
-    ensures { result ≡ address_of_numbers (parts_of 46 ip.now) port }
+/// An IPv4 address: four decimal numbers of 0 to 255 with points, of 1 to 3 digits each, which may begin with zeros.
+pub fn ipv4(word: &[u8]) -> Option<[u8; 4]>
+    ensures { result ≡ ip_of word.now }
 {
-    let (a, rest) = first_part(ip, b'.');
+    let (a, rest) = first_part(word, b'.');
     let (b, rest) = first_part(rest?, b'.');
     let (c, rest) = first_part(rest?, b'.');
     let (d, more) = first_part(rest?, b'.');
     if more.is_some() {
         return None;
     }
-    let ip = [ip_number(a)?, ip_number(b)?, ip_number(c)?, ip_number(d)?];
-    Some(Address {
-        ip,
-        port: port? as u16,
-    })
+    Some([ip_number(a)?, ip_number(b)?, ip_number(c)?, ip_number(d)?])
 }
 
 // One number of an IPv4 address.

@@ -13,7 +13,7 @@ mod settings;
 mod whole;
 mod words;
 
-pub use addresses::address;
+pub use addresses::{address, ipv4};
 pub use ends::without_last;
 pub use head::{Head, read_head};
 pub use laws::{head_spelled, lines_spelled, script_spelled};
@@ -21,7 +21,7 @@ pub use numbers::count;
 pub use octets::{octets_exactly, octets_up_to};
 pub use reader::{Found, LineBuffer, Reader};
 pub use settings::{SettingsFault, SettingsOctets, SettingsText};
-pub use whole::{TextFault, read_text};
+pub use whole::{TEXT_LIMIT, TextFault, read_text};
 pub use words::{first_word, is_end};
 
 #[cfg(test)]

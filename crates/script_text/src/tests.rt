@@ -273,10 +273,12 @@ fn a_text_of_65536_octets_is_the_longest(rt: HostRuntime) {
         (70_000, false),
     ] {
         let text = vec![in alloc; b'x'; count].expect(&rt, "memory");
-        let Ok(read) = read_text(alloc, &mut in_pieces(text.as_slice(), 1000)) else {
+        let mut source = in_pieces(text.as_slice(), 1000);
+        let Ok(read) = read_text(alloc, &mut source) else {
             assert!(rt; false, "{count} octets");
             return;
         };
+        assert_eq!(rt; source.left.len(), text.len().saturating_sub(65_537));
         match read {
             Some(read) => assert!(rt;
                 is_read && read.as_slice() == text.as_slice(),

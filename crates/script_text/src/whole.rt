@@ -1,13 +1,13 @@
 //! A whole text of bounded length.
 ghost use Rattle.std.specs.Prelude.{◌≡◌, ◌≤◌, ◌+◌, ◌-◌, ◌*◌, ◌<◌, ℕ, List, Option, Some, Err, IfOk, OnErr, length};
 ghost use Rattle.board_core.specs.Causes.{Rose};
-ghost use Rattle.script_text.specs.Whole.{IsWhole};
+ghost use Rattle.script_text.specs.Whole.{IsWhole, TakesAtMost};
 
 use board_core::Source;
 use std::alloc::Global;
 
 /// The longest text that is read whole, in octets.
-const TEXT_LIMIT: usize = 65_536;
+pub const TEXT_LIMIT: usize = 65_536;
 
 /// Why a text could not be read.
 #[derive(Clone, Copy, Debug, PartialEq, Eq)]
@@ -20,9 +20,10 @@ pub enum TextFault {
 
 /// Reads what is left of the source, to its end: None where it has more than 65,536 octets.
 ///
-/// At None and at an error what is left of the source is left open.
+/// It takes at most 65,537 octets.
 pub fn read_text<S: Source>(alloc: Global, source: &mut S) -> Result<Option<Vec<u8>>, TextFault>
     ensures whole { (text : List ℕ) → S.left source.old ≡ Some text → IfOk result (IsWhole text) }
+    ensures taken { (text : List ℕ) → S.left source.old ≡ Some text → TakesAtMost 65537 text (S.left source.new) }
     ensures later { S.faults source.old ≤ S.faults source.new }
     ensures failed { result ≡ Err TextFault.Source → Rose (S.faults source.old) (S.faults source.new) }
     ensures same { (result ≡ Err TextFault.Source → ⊥) → S.faults source.new ≡ S.faults source.old }
@@ -30,7 +31,9 @@ pub fn read_text<S: Source>(alloc: Global, source: &mut S) -> Result<Option<Vec<
     let mut text = Vec::new(alloc);
     let mut chunk = [0u8; 256];
     'chunks: loop {
-        let count = match source.read(&mut chunk) {
+        let room = (TEXT_LIMIT + 1 - text.len()).min(chunk.len());
+        let piece = &mut chunk[..room];
+        let count = match source.read(piece) {
             Ok(count) => count,
             Err(_) => return Err(TextFault::Source),
         };
@@ -40,7 +43,7 @@ pub fn read_text<S: Source>(alloc: Global, source: &mut S) -> Result<Option<Vec<
         if count > TEXT_LIMIT - text.len() {
             return Ok(None);
         }
-        match text.extend_from_slice(&chunk[..count]) {
+        match text.extend_from_slice(&piece[..count]) {
             Ok(()) => {}
             Err(_) => return Err(TextFault::Memory),
         }

@@ -18,7 +18,7 @@ IsLength [] n = ⊥
 IsLength (first ∷ more) n =
     ((first < 128) × (more ≡ []) × (n ≡ first)) ⊎ ((1 ≤ length more) × (length more ≤ 4) × (first ≡ 128 + length more) × (n ≡ number_of more))
 
--- a tag, a length and so many octets
+-- a tag, a length and the octets that it counts
 pub record IsElement (octets : List ℕ) (tag : ℕ) (contents : List ℕ) : Type 0 where
   pub spelled : List ℕ
   pub is_length : IsLength spelled (length contents)

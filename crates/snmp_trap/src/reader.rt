@@ -70,7 +70,7 @@ impl<'a> Reader<'a> {
     }
 }
 
-/// The length octets behind the tag at `at`, and so many octets.
+/// The length octets behind the tag at `at`, and the octets that they count.
 #[tactic(auto, unfolding(crate::specs::Reading::length_at))]
 fn length<'a>(
     at: usize,

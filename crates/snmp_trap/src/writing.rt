@@ -138,6 +138,7 @@ fn write(trap: &Trap, out: &mut Octets)
 /// Puts the trap message in place of what `out` holds, in its one shortest spelling.
 pub fn encode(trap: &Trap, out: &mut Octets)
     requires { IsBody trap.now.body }
+    ensures written { out.new ≡ spelling (fields trap.now) }
     ensures spelled { Shortest (fields trap.now) out.new }
     // What is written is read as this trap.
     ensures read_again { IsTrap out.new (fields trap.now) }

@@ -3,7 +3,7 @@ use super::captures::{
     ACK, GUID, SEQUENCE, TRAP, capture_of, changed, console_behind, console_with, datagram_entry,
     opened,
 };
-use super::{CLOSED, CONSOLE, Case, DONE, FAILED, MADE, check, words_in};
+use super::{CLOSED, CONSOLE, Case, DONE, FAILED, MADE, SETTINGS, check, words_in};
 use crate::program::top;
 use board_core::{MemBoard, MemSink, MemSource, Step};
 use std::test::Fail;
@@ -38,9 +38,9 @@ fn init_console_leaves_and_says(rt: HostRuntime) {
     };
     let refused = Case {
         what: "a controller's settings",
-        text: "filter = \"80200010ffff04ff010400000000000000000000\"\n",
+        text: SETTINGS,
         status: 4,
-        written: "settings text\n",
+        written: "settings unknown\n",
         after: &[],
         ..made
     };
@@ -69,6 +69,7 @@ fn init_console_leaves_and_says(rt: HostRuntime) {
         Case {
             what: "a port that is too great",
             text: "ack_port = 65536",
+            written: "settings ack_port\n",
             ..refused
         },
         Case {

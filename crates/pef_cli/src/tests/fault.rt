@@ -1,13 +1,17 @@
 // The texts of the faults.
 use crate::init_fault::InitFault;
 use crate::no_start::NoStart;
+use report_line::SettingsRefusal;
 use std::alloc::AllocError;
 
 #[test]
 fn a_fault_says_what_is_wrong(rt: HostRuntime) -> Result<(), AllocError> {
     let alloc = rt.alloc();
     let cases = [
-        (InitFault::Settings, "the settings text is refused"),
+        (
+            InitFault::Settings(SettingsRefusal::Text),
+            "the settings text is refused",
+        ),
         (InitFault::Input, "the settings could not be read"),
         (InitFault::Disk, "the disk failed"),
         (

@@ -1,14 +1,24 @@
 // The form `init`, and words of no form.
-use super::{CONSOLE, Case, LINE, MADE, UNMARKED, check, words_in};
+use super::{CONSOLE, Case, MADE, SETTINGS, UNMARKED, check, words_in};
 use crate::form::{Form, Paths};
 use crate::words::paths;
 
 const WORDS: [&str; 3] = ["init", "state", "settings.toml"];
 
+// Settings without a filter, and their file.
+const EXAMPLE: &str =
+    "guid = \"00112233-4455-6677-8899-aabbccddeeff\"\nagent = \"10.0.0.2\"\nmanufacturer = 99999\nsystem = 1\n";
+
+const EXAMPLE_MADE: [u8; 60] = [
+    0xa5, 1, 55, 0, 0, 0x11, 0x22, 0x33, 0x44, 0x55, 0x66, 0x77, 0x88, 0x99, 0xaa, 0xbb, 0xcc,
+    0xdd, 0xee, 0xff, 10, 0, 0, 2, 0x9f, 0x86, 1, 0, 1, 0, 162, 0, 162, 0, 162, 0, 1, 63, 0, 0, 0,
+    0, 0, 0, 0, 0, 0, 0, 0, 0, 0, 0, 0, 0, 0, 0, 0, 0, 0, 0,
+];
+
 const MADE_OF_NOTHING: Case<'static> = Case {
     what: "an empty file",
     file: &[],
-    text: LINE,
+    text: SETTINGS,
     failing_disk: &[],
     failing_issue: &[],
     failing_source: &[],
@@ -23,8 +33,8 @@ const MADE_OF_NOTHING: Case<'static> = Case {
 fn init_leaves_and_says(rt: HostRuntime) {
     let made = MADE_OF_NOTHING;
     let refused = Case {
-        what: "a bad text",
-        text: "filter = \"80\"",
+        what: "a text that is no document",
+        text: "guid = ",
         status: 4,
         written: "settings text\n",
         after: &[],
@@ -45,6 +55,9 @@ fn init_leaves_and_says(rt: HostRuntime) {
         after: &[],
         ..made
     };
+    let long = String::from_utf8(vec![in rt.alloc(); b'\n'; 65_537].expect(&rt, "memory")).expect(
+        &rt, "UTF-8",
+    );
     let mut longer = [0x77; 70];
     longer[..60].copy_from_slice(&MADE);
     let cases = [
@@ -61,14 +74,34 @@ fn init_leaves_and_says(rt: HostRuntime) {
             ..made
         },
         Case {
-            what: "a line end",
-            text: "filter = \"80200010FFFF04FF010400000000000000000000\"\n",
+            what: "settings without a filter",
+            text: EXAMPLE,
+            after: &EXAMPLE_MADE,
             ..made
         },
         refused,
         Case {
-            what: "an empty text",
-            text: "",
+            what: "the example without its agent",
+            text: "guid = \"00112233-4455-6677-8899-aabbccddeeff\"\nmanufacturer = 99999\nsystem = 1\n",
+            written: "settings agent\n",
+            ..refused
+        },
+        Case {
+            what: "the example with another key",
+            text: "guid = \"00112233-4455-6677-8899-aabbccddeeff\"\nagent = \"10.0.0.2\"\nmanufacturer = 99999\nsystem = 1\nx = 1\n",
+            written: "settings unknown\n",
+            ..refused
+        },
+        Case {
+            what: "a filter alone",
+            text: "filter = \"80200010ffff04ff010400000000000000000000\"",
+            written: "settings guid\n",
+            ..refused
+        },
+        Case {
+            what: "a text of 65,537 octets",
+            text: long.as_str(),
+            written: "settings long\n",
             ..refused
         },
         Case {

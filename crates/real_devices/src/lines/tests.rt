@@ -1,6 +1,6 @@
 use super::*;
 
-// A file that takes at most so many octets at the first write, and all at the later ones.
+// A file that takes at most this number of octets at the first write, and all at the later ones.
 #[derive(Drop)]
 struct Cut<'a> {
     first: Option<usize>,

@@ -1,8 +1,9 @@
-use Rattle.std.proofs.Common.{subst}
+use Rattle.std.proofs.Common.{◌≡◌, Err, rules, subst}
 use Rattle.std.proofs.lemmas.Bool.{both_ways}
 use Rattle.board_core.specs.Board.{LeavesOnly}
 use Rattle.pef_journal.specs.Format.{LeavesMaking}
 use Rattle.pef_cli.specs.Init.{making}
+use Rattle.pef_cli.specs.declared.init_fault.InitFault.TheVariants.{Settings}
 use Rattle.pef_cli.proofs.Moments.{made}
 use Rattle.pef_cli.proofs.initializing.make.Goals as goal
 
@@ -29,3 +30,8 @@ returns-clause-moments g c = λ tells.
     (c.in_ok-is_formatted.ensures.ok tells_mid)
     (subst (λ k. LeavesOnly mid new (LeavesMaking k c.in_ok-settings.settings mid)) c.kind.ensures
     (subst (λ settings. LeavesOnly mid new (LeavesMaking c.kind.result settings mid)) c.as_slice.ensures (c.format.ensures.any_moment tells)))
+
+pub returns-in_err-settings-clause-refused : goal.returns-in_err-settings-clause-refused
+returns-in_err-settings-clause-refused g c = λ refusal is.
+    let same : c.settings_in.result ≡ Err (Settings refusal) = search (rules, c.in_err-settings.was, c.from_residual-in_err-settings.ensures, is) in
+    c.settings_in.ensures.refused refusal same

@@ -9,9 +9,9 @@ use Rattle.pef_core.specs.Past.{SetPef}
 use Rattle.pef_core.specs.Replies.{answer_by, answer_to_write}
 use Rattle.pef_core.proofs.replying.reply_to.Goals as goal
 
-pub returns-in-Ok-SetPef-clause-pef : goal.returns-in-Ok-SetPef-clause-pef
-returns-in-Ok-SetPef-clause-pef c =
+pub returns-in-SetPef-clause-pef : goal.returns-in-SetPef-clause-pef
+returns-in-SetPef-clause-pef c =
     let before = tables c.args.config.now in
-    let p = c.in-Ok-SetPef.parameter in
+    let p = c.in-SetPef.parameter in
     let set = subst (λ octets. tables c.set_pef.new.config ≡ pef_with (answer_to_write (set_code our_sizes before p octets) (SetPef (write p octets))).effect before) c.as_slice.ensures c.set_pef.ensures.pef in
-    subst (λ command. tables c.set_pef.new.config ≡ pef_with (answer_by before (kept c.args.lan.now) command).effect before) (sym (sym c.parse.ensures ∙ c.in-Ok-SetPef.is ∙ ap Ok c.in-Ok-SetPef.field-0-is)) set
+    subst (λ command. tables c.set_pef.new.config ≡ pef_with (answer_by before (kept c.args.lan.now) command).effect before) (sym (sym c.parse.ensures ∙ c.in-Ok.is ∙ ap Ok c.in-SetPef.is)) set

@@ -11,3 +11,7 @@ returns-in-Event-clause-values c =
 pub returns-in-Command-clause-values : goal.returns-in-Command-clause-values
 returns-in-Command-clause-values c =
     subst (λ item. shown c.answer.new.self ≡ with_deed (item_deed (shown c.args.self.now) item) (shown c.args.self.now)) (sym c.in-Command.is) c.answer.ensures.values
+
+pub returns-in-Tick-clause-values : goal.returns-in-Tick-clause-values
+returns-in-Tick-clause-values c =
+    subst (λ item. shown c.tick.new.self ≡ with_deed (item_deed (shown c.args.self.now) item) (shown c.args.self.now)) (sym c.in-Tick.is) c.tick.ensures.values

@@ -1,11 +1,12 @@
-use Rattle.std.proofs.Common.{◌≡◌, None, [], ◌∷◌, sym, ◌∙◌, ap}
+use Rattle.std.proofs.Common.{◌≡◌, ◌<◌, None, [], ◌∷◌, sym, ◌∙◌, ap, subst, arith}
 use Rattle.pef_engine.specs.Scripts.{script_from}
 use Rattle.pef_engine.proofs.ScriptOf.{from-append}
 use Rattle.pef_core.specs.After.{with_next_job, values_after}
 use Rattle.pef_core.specs.Deeds.{deed}
+use Rattle.pef_core.specs.Left.{left}
 use Rattle.pef_core.specs.Report.{controller_scripts}
 use Rattle.pef_core.specs.View.{shown}
-use Rattle.pef_core.proofs.LeftSteps.{leaves_fewer}
+use Rattle.pef_core.proofs.LeftSteps.{begins_within}
 use Rattle.pef_core.proofs.Standing.{standing_next}
 use Rattle.pef_core.proofs.machine.ControllerMachine.apply.Goals as goal
 
@@ -19,5 +20,5 @@ returns c =
         values_are = values ∙ ap (λ v. values_after (deed v entry) v) shows.values_are ∙ sym (standing_next Z H entry);
         script_is = script ∙ ap (λ s. script_from controller_scripts s (entry ∷ [])) shows.script_is ∙ sym (from-append controller_scripts None H (entry ∷ []));
       };
-      left = λ outcome. leaves_fewer c.args.self.now (shown c.begin_next.new.self) entry outcome c.requires.allowed values;
+      left = λ outcome. subst (λ v. left v < left (shown c.args.self.now)) (sym c.begin_next.ensures.values) (omega (arith, c.enter.ensures.fewer outcome, begins_within (shown c.enter.new.self)));
     }

@@ -15,4 +15,4 @@ pub returns : goal.returns
 returns c =
     let settings = c.args.settings.now in
     let read = ap (with_filter settings) (c.copy_from_slice.ensures.after ∙ rest 35 settings) in
-    IfOk-weaker c.new.result _ (λ machine. ShowsController machine settings []) (λ machine shows. shows settings read) c.new.ensures
+    IfOk-weaker c.new.result _ (λ machine. ShowsController machine settings []) (λ machine shows. shows settings c.own_of.ensures read) c.new.ensures

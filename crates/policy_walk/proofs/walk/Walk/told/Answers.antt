@@ -5,8 +5,8 @@ use Rattle.policy_walk.specs.Tried.{Any, place_after}
 use Rattle.policy_walk.specs.First.{first_tried}
 use Rattle.policy_walk.proofs.walk.Walk.told.Goals as goal
 
-pub returns-in-Some : goal.returns-in-Some
-returns-in-Some c = λ stops results stands.
+pub returns-in-Some-clause-after : goal.returns-in-Some-clause-after
+returns-in-Some-clause-after c = λ stops results stands.
     let inside : c.self.inside.stops.items ≡ stops = ap {A = Standing} (λ walk. walk.stops) c.self.view_is ∙ stands.over in
     let here : place_after stops results ≡ Some c.in-Some.place =
     sym stands.place ∙ ap {A = Standing} (λ walk. walk.current) (sym c.self.view_is) ∙ c.in-Some.is in

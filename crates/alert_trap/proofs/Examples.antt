@@ -1,0 +1,89 @@
+-- The definitions on a fan's event: sensor type 04h, sensor 30h, data 52h 10h 20h. Its trap is an alert's first one, with severity critical
+-- and no text.
+use Rattle.std.proofs.Common.{◌≡◌, ℕ, List, [], ◌∷◌, ◌++◌, take, drop, Some, None, refl}
+use Rattle.snmp_trap.specs.Spelling.{number_element, list, trap_part, spelling}
+use Rattle.alert_trap.specs.declared.origin.Origin.{Origin}
+use Rattle.alert_trap.specs.declared.draw.Draw.{Draw}
+use Rattle.alert_trap.specs.Trap.{alert_body, trap_for, trap_octets}
+use Rattle.alert_trap.specs.Acknowledgement.{ack_awaited}
+
+-- the fan's event with these four octets of its time, and this event trigger
+abbrev fan_at : List ℕ → ℕ → List ℕ
+fan_at time trigger =
+    (0x01 ∷ 0x00 ∷ 0x02 ∷ []) ++ (time ++ (0x20 ∷ 0x00 ∷ 0x04 ∷ 0x04 ∷ 0x30 ∷ trigger ∷ 0x52 ∷ 0x10 ∷ 0x20 ∷ []))
+
+-- at 1000000000 seconds since 1970-01-01
+abbrev fan : List ℕ
+fan = fan_at (0x00 ∷ 0xCA ∷ 0x9A ∷ 0x3B ∷ []) 0x01
+
+abbrev origin : Origin
+origin = record { agent = 10 ∷ 0 ∷ 0 ∷ 2 ∷ []; manufacturer = 99999; system = 1 }
+
+abbrev draw : ℕ → ℕ → Draw
+draw sequence stamp = record {
+  guid = 0x00 ∷ 0x11 ∷ 0x22 ∷ 0x33 ∷ 0x44 ∷ 0x55 ∷ 0x66 ∷ 0x77 ∷ 0x88 ∷ 0x99 ∷ 0xAA ∷ 0xBB ∷ 0xCC ∷ 0xDD ∷ 0xEE ∷ 0xFF ∷ [];
+  sequence = sequence;
+  stamp = stamp;
+}
+
+-- "public"
+abbrev public : List ℕ
+public = 0x70 ∷ 0x75 ∷ 0x62 ∷ 0x6C ∷ 0x69 ∷ 0x63 ∷ []
+
+fan_trap : trap_octets origin (draw 1 0) (Some fan) 0x10 [] public ≡
+    0x30 ∷ 0x6A ∷ 0x02 ∷ 0x01 ∷ 0x00 ∷ 0x04 ∷ 0x06 ∷ 0x70 ∷ 0x75 ∷ 0x62 ∷ 0x6C ∷ 0x69 ∷ 0x63 ∷ 0xA4 ∷ 0x5D ∷
+    0x06 ∷ 0x09 ∷ 0x2B ∷ 0x06 ∷ 0x01 ∷ 0x04 ∷ 0x01 ∷ 0x98 ∷ 0x6F ∷ 0x01 ∷ 0x01 ∷
+    0x40 ∷ 0x04 ∷ 0x0A ∷ 0x00 ∷ 0x00 ∷ 0x02 ∷ 0x02 ∷ 0x01 ∷ 0x06 ∷ 0x02 ∷ 0x03 ∷ 0x04 ∷ 0x01 ∷ 0x02 ∷ 0x43 ∷ 0x01 ∷ 0x00 ∷
+    0x30 ∷ 0x3F ∷ 0x30 ∷ 0x3D ∷ 0x06 ∷ 0x0A ∷ 0x2B ∷ 0x06 ∷ 0x01 ∷ 0x04 ∷ 0x01 ∷ 0x98 ∷ 0x6F ∷ 0x01 ∷ 0x01 ∷ 0x01 ∷ 0x04 ∷ 0x2F ∷
+    0x00 ∷ 0x11 ∷ 0x22 ∷ 0x33 ∷ 0x44 ∷ 0x55 ∷ 0x66 ∷ 0x77 ∷ 0x88 ∷ 0x99 ∷ 0xAA ∷ 0xBB ∷ 0xCC ∷ 0xDD ∷ 0xEE ∷ 0xFF ∷
+    0x00 ∷ 0x01 ∷ 0x06 ∷ 0xEF ∷ 0xED ∷ 0x80 ∷ 0xFF ∷ 0xFF ∷ 0x20 ∷ 0x20 ∷ 0x10 ∷ 0x20 ∷ 0x30 ∷ 0x00 ∷ 0x00 ∷
+    0x52 ∷ 0x10 ∷ 0x20 ∷ 0x00 ∷ 0x00 ∷ 0x00 ∷ 0x00 ∷ 0x00 ∷ 0xFF ∷ 0x00 ∷ 0x01 ∷ 0x86 ∷ 0x9F ∷ 0x00 ∷ 0x01 ∷ 0xC1 ∷ []
+unfolding number_element list trap_part spelling
+fan_trap = refl
+
+-- The fan stops failing, 1.5 s later: its deassertion has the specific number 262530, and stands in trap number FFFFh with time-stamp 150.
+abbrev later : List ℕ
+later = trap_octets origin (draw 0xFFFF 150) (Some (fan_at (0x00 ∷ 0xCA ∷ 0x9A ∷ 0x3B ∷ []) 0x81)) 0x10 [] public
+
+numbers :
+    (take 10 (drop 32 later) ≡ 0x02 ∷ 0x01 ∷ 0x06 ∷ 0x02 ∷ 0x03 ∷ 0x04 ∷ 0x01 ∷ 0x82 ∷ 0x43 ∷ 0x02 ∷ [])
+    × (take 2 (drop 42 later) ≡ 0x00 ∷ 0x96 ∷ []) × (take 4 (drop 78 later) ≡ 0xFF ∷ 0xFF ∷ 0x06 ∷ 0xEF ∷ [])
+unfolding number_element list trap_part spelling
+numbers = (refl, refl, refl)
+
+-- the octets of a record's time, and the local time in the body
+abbrev time_in : List ℕ → ℕ
+time_in time = (alert_body origin (draw 1 0) (Some (fan_at time 0x01)) 0x10 []).timestamp
+
+times :
+    (time_in (0x7F ∷ 0xD5 ∷ 0xAA ∷ 0x34 ∷ []) ≡ 0) × (time_in (0x80 ∷ 0xD5 ∷ 0xAA ∷ 0x34 ∷ []) ≡ 0)
+    × (time_in (0xFF ∷ 0xFF ∷ 0xFF ∷ 0xFF ∷ []) ≡ 0) × (time_in (0x00 ∷ 0xCA ∷ 0x9A ∷ 0x3B ∷ []) ≡ 116387200)
+times = (refl, refl, refl, refl)
+
+-- a deassertion; an alert without a record
+specific :
+    ((trap_for origin (draw 1 0) (Some (fan_at (0x00 ∷ 0xCA ∷ 0x9A ∷ 0x3B ∷ []) 0x81)) 0x10 [] public).specific ≡ 262530)
+    × ((trap_for origin (draw 1 0) None 0x10 [] public).specific ≡ 0)
+specific = (refl, refl)
+
+-- the octets of PET Acknowledge that acknowledge the fan's trap say 0100 80EDEF06 20 20 30 521020
+acknowledged : ack_awaited 1 (Some fan) ≡ record {
+  sequence = 0x0001;
+  timestamp = 0x06EFED80;
+  event_source = 0x20;
+  device = 0x20;
+  sensor = 0x30;
+  event_data = 0x52 ∷ 0x10 ∷ 0x20 ∷ [];
+}
+acknowledged = refl
+
+-- of the second alert, which had no record
+acknowledged_without : ack_awaited 2 None ≡ record {
+  sequence = 0x0002;
+  timestamp = 0;
+  event_source = 0x20;
+  device = 0x20;
+  sensor = 0x00;
+  event_data = 0x00 ∷ 0x00 ∷ 0x00 ∷ [];
+}
+acknowledged_without = refl

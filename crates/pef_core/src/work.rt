@@ -1,0 +1,13 @@
+//! What was begun for a record.
+
+use pef_match::Job;
+
+/// What was begun for a record: its job and the GUID in force, as they were when it began.
+#[derive(Drop)]
+pub struct Work {
+    /// The number of its record in the log, counted from 1.
+    pub number: usize,
+    pub job: Job,
+    /// The system GUID that its traps tell.
+    pub guid: [u8; 16],
+}
