@@ -55,9 +55,6 @@ fn init_leaves_and_says(rt: HostRuntime) {
         after: &[],
         ..made
     };
-    let long = String::from_utf8(vec![in rt.alloc(); b'\n'; 65_537].expect(&rt, "memory")).expect(
-        &rt, "UTF-8",
-    );
     let mut longer = [0x77; 70];
     longer[..60].copy_from_slice(&MADE);
     let cases = [
@@ -96,12 +93,6 @@ fn init_leaves_and_says(rt: HostRuntime) {
             what: "a filter alone",
             text: "filter = \"80200010ffff04ff010400000000000000000000\"",
             written: "settings guid\n",
-            ..refused
-        },
-        Case {
-            what: "a text of 65,537 octets",
-            text: long.as_str(),
-            written: "settings long\n",
             ..refused
         },
         Case {
@@ -150,6 +141,21 @@ fn init_leaves_and_says(rt: HostRuntime) {
     for case in &cases {
         check(&rt, rt.alloc(), &WORDS, case);
     }
+}
+
+#[test]
+fn init_takes_no_text_of_65_537_octets(rt: HostRuntime) {
+    let octets = vec![in rt.alloc(); b'\n'; 65_537].expect(&rt, "memory");
+    let text = String::from_utf8(octets).expect(&rt, "UTF-8");
+    let long = Case {
+        what: "a text of 65,537 octets",
+        text: text.as_str(),
+        status: 4,
+        written: "settings long\n",
+        after: &[],
+        ..MADE_OF_NOTHING
+    };
+    check(&rt, rt.alloc(), &WORDS, &long);
 }
 
 #[test]
