@@ -11,6 +11,7 @@ mod no_start;
 mod opening;
 mod program;
 mod receiving;
+mod showing;
 mod remark;
 mod starting;
 mod state_reader;

@@ -78,7 +78,7 @@ fn call_without_files<'a>(rt: &HostRuntime, words: &[String]) -> Result<u8, NoSt
 // A call on the files that the words name.
 fn call<'a>(rt: &HostRuntime, words: &[String], asked: &Asked<'a>) -> Result<u8, NoStart<'a>> {
     match asked.form {
-        Form::List => call_to_read(rt, words, asked),
+        Form::Show | Form::List => call_to_read(rt, words, asked),
         _ => call_on_files(rt, words, asked),
     }
 }

@@ -18,6 +18,7 @@ mod replying;
 mod report;
 mod running;
 mod settings;
+mod showing;
 mod turn;
 mod turns;
 mod work;
