@@ -1,5 +1,5 @@
 #!/usr/bin/env python3
-"""Compares the proved program with a slow model of a controller, on random scripts of events, commands and ticks.
+"""Compares the proved program with a slow model of a controller, on random scripts of events, commands, ticks and power cycles.
 
 It builds nothing: it takes crates/pef_cli/out/pef_cli, which ./demo at the top proves and builds. The model below is written from the
 standard (IPMI 2.0, chapters 17, 23, 30 and 32; PET 1.0; RFC 1157) and docs/COMMANDS.md, bit by bit, and knows nothing of the program's
@@ -22,6 +22,10 @@ import time
 
 top = pathlib.Path(__file__).resolve().parents[2]
 program = top / "crates/pef_cli/out/pef_cli"
+
+
+# What a trap says of no event: the device alone.
+NO_EVENT = bytes(7) + b"\x20" + bytes(8)
 
 
 def bit(value, n):
@@ -97,8 +101,16 @@ class Controller:
                 self.lan[channel, 18, number] = bytes(3)
                 self.lan[channel, 19, number] = bytes(12)
         self.log, self.done, self.plant, self.kills = [], 0, [], 0
+        self.number, self.software, self.status, self.at_once = None, 0, 0, None
+        self.delay, self.postpone = self.startup_delay(), 0
         self.own, self.seconds, self.drawn, self.sends = settings, 0, 0, 0
         self.job = self.awaited = None
+
+    def startup_delay(self):
+        return self.pef[3][0] if bit(self.pef[1][0], 2) else 0
+
+    def may_begin(self):
+        return bit(self.pef[1][0], 0) and self.delay == 0 and self.postpone == 0
 
     def acts_of(self, event):
         """The actions of a record: one act by priority, and the OEM action."""
@@ -113,8 +125,22 @@ class Controller:
         if key >= 128:
             having = [n for n in range(1, 9) if self.keys[n][0] % 128 == filter and self.keys[n][1] % 128 == key % 128]
             named = having[0] if having else None
-        octets = b"".join(self.blocks[named, block] for block in range(1, 5)) if named else b""
+        return self.string(named) if named else b""
+
+    def string(self, number):
+        octets = b"".join(self.blocks[number, block] for block in range(1, 5))
         return octets.split(b"\0")[0][:61]
+
+    def destination(self, channel, selector):
+        """A destination that an alert can be sent to: address, type's octets, community; None for another."""
+        if channel not in (1, 2) or selector > 4:
+            return None
+        kind, ip = self.lan[channel, 18, selector], self.lan[channel, 19, selector][2:6]
+        if kind[0] % 8 not in (0, 6, 7) or ip == bytes(4):
+            return None
+        port = self.own[{0: "pet_port", 6: "oem1_port", 7: "oem2_port"}[kind[0] % 8]]
+        community = self.lan[channel, 16].split(b"\0")[0]
+        return {"ip": ip, "port": port[0] + 256 * port[1], "kind": kind, "community": community}
 
     def targets_of(self, event):
         """The policy sets of a record, each with its alerts: policy, channel, type; address, type's octets, community; severity, text."""
@@ -127,29 +153,18 @@ class Controller:
             ]
             targets = []
             for first, second, key in self.policies.values():
-                channel, selector = second // 16, second % 16
-                if not asking or first // 16 != policy_number or not bit(first, 3) or first % 8 > 4 or channel not in (1, 2) or selector > 4:
+                to = self.destination(second // 16, second % 16)
+                if not asking or first // 16 != policy_number or not bit(first, 3) or first % 8 > 4 or to is None:
                     continue
-                kind, ip = self.lan[channel, 18, selector], self.lan[channel, 19, selector][2:6]
-                if kind[0] % 8 not in (0, 6, 7) or ip == bytes(4):
-                    continue
-                port = self.own[{0: "pet_port", 6: "oem1_port", 7: "oem2_port"}[kind[0] % 8]]
-                targets.append(
-                    {
-                        "stop": (first % 8, channel, kind[0] % 8),
-                        "ip": ip,
-                        "port": port[0] + 256 * port[1],
-                        "kind": kind,
-                        "community": self.lan[channel, 16].split(b"\0")[0],
-                        "severity": max(self.filters[n][3] for n in asking),
-                        "text": self.text(key, min(asking)),
-                    }
-                )
+                severity = max(self.filters[n][3] for n in asking)
+                stop = (first % 8, second // 16, to["kind"][0] % 8)
+                targets.append(to | {"stop": stop, "severity": severity, "text": self.text(key, min(asking))})
             sets.append(targets)
         return sets
 
     def body_of(self, event, guid, sequence, target):
-        """The body of the trap: PET 1.0."""
+        """The body of the trap: PET 1.0. An alert at once has no event."""
+        event = event or NO_EVENT
         stamp = int.from_bytes(event[3:7], "little")
         time = 0 if stamp == 0xFFFFFFFF or stamp < 883612800 else stamp - 883612800
         text = target["text"]
@@ -170,6 +185,7 @@ class Controller:
     def trap_of(self, event, target, body, seconds):
         """The message: RFC 1157, section 4.1.6, and PET 1.0 for the specific number."""
         enterprise = bytes.fromhex("2b06010401986f0101")
+        event = event or NO_EVENT
         specific = event[10] * 65536 + event[12] % 128 * 256 + 128 * bit(event[12], 7) + event[13] % 16
         binding = ber(0x30, ber(6, enterprise + b"\1") + ber(4, body))
         fields = ber(6, enterprise) + ber(0x40, self.own["agent"]) + number(2, 6) + number(2, specific)
@@ -224,6 +240,10 @@ class Controller:
         if "oem" in acts:
             self.act(said, "oem", ident)
 
+    def alert_at_once(self, said, guid, target):
+        ended = yield from self.alert(said, None, guid, target)
+        self.status = 0x01 if ended else 0x03
+
     def act(self, said, word, ident):
         said.append(f"act {word} {ident:04x} done")
         self.plant.append(f"{word} {ident:04x}")
@@ -232,10 +252,14 @@ class Controller:
         """Goes on with the job that waits, and then with those of the records that wait, each by the tables that stand when it begins."""
         if self.job is not None and heard is not None:
             self.go_on(said, heard)
-        while self.job is None and bit(self.pef[1][0], 0) and self.done < len(self.log):
+        guid = self.guid[1:] if bit(self.guid[0], 0) else self.own["guid"]
+        if self.at_once is not None:
+            self.number, self.lines, self.status = None, [], 0xFF
+            self.job, self.at_once = self.alert_at_once(self.lines, guid, self.at_once), None
+            self.go_on(said, None)
+        while self.job is None and self.may_begin() and self.done < len(self.log):
             event = self.log[self.done]
-            guid = self.guid[1:] if bit(self.guid[0], 0) else self.own["guid"]
-            self.lines = []
+            self.number, self.lines = self.done + 1, []
             self.job = self.job_of(self.lines, event, self.acts_of(event), self.targets_of(event), guid)
             self.go_on(said, None)
 
@@ -244,7 +268,7 @@ class Controller:
             self.job.send(heard)
         except StopIteration:
             self.job = None
-            self.done += 1
+            self.done = self.done if self.number is None else self.number
         said += self.lines
         self.lines.clear()
 
@@ -263,13 +287,104 @@ class Controller:
 
     def command(self, netfn, cmd, data):
         known = {
+            (4, 0x10): lambda data: b"\0\x51\x3f\x10" if data == b"" else b"\xc7",
+            (4, 0x11): self.arm,
             (4, 0x12): self.set_pef,
             (4, 0x13): self.get_pef,
+            (4, 0x14): self.set_last,
+            (4, 0x15): self.get_last,
+            (4, 0x16): self.send,
             (4, 0x17): lambda data: b"\0" if len(data) == 12 else b"\xc7",
+            (10, 0x47): self.clear,
             (12, 1): self.set_lan,
             (12, 2): self.get_lan,
         }
         return known[netfn, cmd](data) if (netfn, cmd) in known else b"\xc1"
+
+    def arm(self, data):
+        """Arm PEF Postpone Timer: IPMI 2.0, section 30.2."""
+        if len(data) != 1:
+            return b"\xc7"
+        if data[0] != 0xFF:
+            self.postpone = None if data[0] == 0xFE else data[0]
+        return bytes([0, 0xFE if self.postpone is None else self.postpone])
+
+    def runs_job(self):
+        return self.job is not None and self.number is not None
+
+    def runs_alert(self):
+        return self.job is not None and self.number is None
+
+    def set_last(self, data):
+        """Set Last Processed Event ID: section 30.5."""
+        if len(data) != 3:
+            return b"\xc7"
+        if bit(data[0], 0) and self.runs_job():
+            return b"\xd5"
+        held = [event[:2] for event in self.log]
+        if data[1:] != b"\0\0" and data[1:] not in held:
+            return b"\xcb"
+        if bit(data[0], 0):
+            self.done = held.index(data[1:]) + 1 if data[1:] in held else 0
+        else:
+            self.software = data[1] + 256 * data[2]
+        return b"\0"
+
+    def get_last(self, data):
+        """Get Last Processed Event ID: section 30.6."""
+        if data != b"":
+            return b"\xc7"
+        last = self.log[-1] if self.log else b"\xff" * 16
+        stamp = last[3:7] if last[2] < 0xE0 else b"\xff" * 4
+        processed = self.log[self.done - 1][:2] if self.done else b"\0\0"
+        return b"\0" + stamp + last[:2] + self.software.to_bytes(2, "little") + processed
+
+    def send(self, data):
+        """Alert Immediate: section 30.7."""
+        if len(data) == 11:
+            return b"\x83"
+        if len(data) != 3:
+            return b"\xc7"
+        operation = data[1] // 64
+        if operation == 3:
+            return b"\xcc"
+        if operation == 1:
+            return bytes([0, self.status])
+        if operation == 2:
+            if self.runs_alert():
+                return b"\xd5"
+            self.status = 0
+            return b"\0"
+        if data[2] >= 128 + 9:
+            return b"\xc9"
+        to = self.destination(data[0] % 16, data[1] % 16)
+        if to is None:
+            return b"\xcb"
+        if self.job is not None:
+            return b"\x81"
+        self.at_once = to | {"severity": 0, "text": self.string(data[2] - 128) if data[2] >= 128 else b""}
+        return b"\0"
+
+    def clear(self, data):
+        """Clear SEL: section 31.9."""
+        if len(data) != 6:
+            return b"\xc7"
+        if data[2:5] != b"CLR" or data[5] not in (0x00, 0xAA):
+            return b"\xcc"
+        if data[5] == 0xAA:
+            if self.done < len(self.log) or self.job is not None:
+                return b"\xd5"
+            self.log, self.done, self.software = [], 0, 0
+        return b"\0\1"
+
+    def power(self):
+        """What a power cycle clears, and the startup delay."""
+        self.pef[0], self.keys[0] = b"\0", bytes(2)
+        for block in range(1, 5):
+            self.blocks[0, block] = bytes(16)
+        for channel in (1, 2):
+            self.lan[channel, 18, 0], self.lan[channel, 19, 0] = bytes(3), bytes(12)
+        self.postpone, self.delay = 0, self.startup_delay()
 
     def set_pef(self, data):
         lengths = {0: [1], 1: [1], 2: [1], 3: [1], 6: [21], 7: [2], 9: [4], 10: [17], 12: [3], 13: range(3, 19)}
@@ -386,8 +501,13 @@ class Controller:
             said.append(self.event(item[1]))
         elif item[0] == "tick":
             self.seconds += 1
+            self.delay = max(self.delay - 1, 0)
+            self.postpone = self.postpone and max(self.postpone - 1, 0)
             said.append("tick")
             heard = "tick"
+        elif item[0] == "power":
+            self.power()
+            said.append("power")
         else:
             reply = self.command(item[1], item[2], item[3])
             said.append(f"reply {reply.hex()}")
@@ -399,8 +519,8 @@ class Controller:
 def line(item):
     if item[0] == "event":
         return f"event {item[1].hex()}"
-    if item[0] == "tick":
-        return "tick"
+    if item[0] in ("tick", "power"):
+        return item[0]
     return f"cmd {item[1]:02x} {item[2]:02x} {item[3].hex() or '-'}"
 
 
@@ -572,8 +692,10 @@ def random_item(some, model):
     kind = some.random()
     if kind < 0.25:
         return ("event", random_event(some))
-    if kind < 0.5:
+    if kind < 0.48:
         return ("tick",)
+    if kind < 0.5:
+        return ("power",)
     if kind < 0.6:
         return random_acknowledgement(some, model)
     return local(random_table(some) if kind < 0.8 else random_command(some))
@@ -589,6 +711,9 @@ def local(item):
 
 def random_command(some):
     kind = some.random()
+    if kind > 0.7:
+        return random_remaining(some)
+    kind /= 0.7
     if kind < 0.15:
         return ("cmd", 4, 0x12, bytes([6, some.choice([1, 2, 16, 0x81, 0, 17])]) + random_filter(some))
     if kind < 0.25:
@@ -623,6 +748,22 @@ def random_command(some):
         data = bytes([some.choice([1, 2, 0x81, some.randrange(256)]), some.choice([16, 17, 18, 19, 3]), some.randrange(7), 0])
         return ("cmd", 12, 2, data if some.random() < 0.95 else data[:3])
     return ("cmd", some.randrange(64), some.randrange(256), random_octets(some, some.randrange(65)))
+
+
+def random_remaining(some):
+    """What holds, marks, clears and sends at once; now and then with another length."""
+    cmd = some.choice([0x10, 0x11, 0x11, 0x14, 0x14, 0x15, 0x15, 0x16, 0x16, 0x16, 0x47, 0x47])
+    data = {
+        0x10: b"",
+        0x11: bytes([some.choice([0, 1, 2, 5, 0xFE, 0xFF, some.randrange(256)])]),
+        0x14: bytes([some.choice([0, 1, 1, some.randrange(256)]), some.choice([0, 0, 1, 2, 3, 5, 9, some.randrange(256)]), some.choice([0, 0, 0, 1])]),
+        0x15: b"",
+        0x16: bytes([some.choice([1, 1, 2, some.randrange(256)]), some.choice([0, 1, 2, 0x40, 0x80, some.randrange(256)]), some.choice([0, 0x80, 0x81, 0x88, some.randrange(256)])]),
+        0x47: bytes([some.randrange(256), 0]) + some.choice([b"CLR", b"CLR", b"CLR", b"CLS"]) + bytes([some.choice([0, 0xAA, 0xAA, 0xAA, 1])]),
+    }[cmd]
+    if some.random() < 0.05:
+        data = random_octets(some, some.choice([0, 1, 2, 3, 4, 6, 11]))
+    return ("cmd", 10 if cmd == 0x47 else 4, cmd, data)
 
 
 def run(state, script):

@@ -1,13 +1,15 @@
 // The objects of this crate, each call on its happy path and where it fails, against values worked out by hand.
 use crate::board::{Board, DiskFailed};
 use crate::bytes::Bytes;
+use crate::feed::{Arrival, Feed};
 use crate::lists::{community_of, octets_of, payload_of, text_of};
 use crate::memory_board::MemBoard;
+use crate::memory_feed::MemFeed;
 use crate::memory_sink::MemSink;
 use crate::memory_source::MemSource;
 use crate::sink::{Sink, SinkFailed};
 use crate::source::{Source, SourceFailed};
-use crate::step::{Act, Step, Told};
+use crate::step::{Act, Address, Step, Told};
 use std::test::Fail;
 
 /// A call on a board.
@@ -207,5 +209,49 @@ fn failures_say_what_failed(rt: HostRuntime) -> Result<(), Fail> {
     assert_eq!(rt; source.as_str(), "the source could not be read");
     let sink = format!(in rt.alloc(); "{SinkFailed}")?;
     assert_eq!(rt; sink.as_str(), "the sink could not be written");
+    Ok(())
+}
+
+fn next<F: Feed>(feed: &mut F) -> Arrival {
+    feed.next()
+}
+
+// The datagram is the one that the feed has.
+fn named(arrival: &Arrival) -> &'static str {
+    match arrival {
+        Arrival::Datagram { from, octets } => {
+            if from.ip == [10, 0, 0, 2]
+                && from.port == 162
+                && octets.as_slice() == [6, 0].as_slice()
+            {
+                "datagram"
+            } else {
+                "another datagram"
+            }
+        }
+        Arrival::Tick => "tick",
+        Arrival::End => "end",
+        Arrival::Failed => "failed",
+    }
+}
+
+#[test]
+fn a_feed_gives_its_arrivals_and_then_the_end(rt: HostRuntime) -> Result<(), Fail> {
+    let arrivals = [
+        Arrival::Tick,
+        Arrival::Datagram {
+            from: Address {
+                ip: [10, 0, 0, 2],
+                port: 162,
+            },
+            octets: octets_of(&[6, 0]).ok_or("no octets")?,
+        },
+        Arrival::Tick,
+    ];
+    let mut feed = MemFeed::new(rt.alloc(), &arrivals, &[1, 4])?;
+    let wanted = ["tick", "failed", "datagram", "tick", "failed", "end", "end"];
+    for name in wanted {
+        assert_eq!(rt; named(&next(&mut feed)), name);
+    }
     Ok(())
 }

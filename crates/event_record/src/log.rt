@@ -65,6 +65,13 @@ impl Log {
         Ok(())
     }
 
+    /// Removes all records (IPMI 2.0, section 31.9). Their room is kept, so this takes no memory, nor does adding again.
+    pub fn clear(&mut self)
+        ensures { self.new ≡ [] }
+    {
+        self.records.clear();
+    }
+
     /// How many records are held.
     pub fn len(&self) -> usize
         ensures count { result ≡ length self.now }

@@ -75,6 +75,20 @@ fn a_duplicate_is_refused_before_a_full_log(rt: HostRuntime) -> Result<(), Fail>
 }
 
 #[test]
+fn a_cleared_log_is_filled_again(rt: HostRuntime) -> Result<(), Fail> {
+    let mut log = Log::new(rt.alloc())?;
+    for count in [1_024, 2, 0] {
+        for id in 1..=count {
+            log.add(Record::read(&fan_with(id, 0x02))?)?;
+        }
+        assert_eq!(rt; log.len(), usize::from(count));
+        log.clear();
+        assert_eq!(rt; (log.len(), log.place_of(1)), (0, None));
+    }
+    Ok(())
+}
+
+#[test]
 fn a_fault_says_what_is_wrong(rt: HostRuntime) -> Result<(), Fail> {
     let alloc = rt.alloc();
     let reserved = RecordFault::ReservedId(0xFFFF);

@@ -6,6 +6,10 @@ use pet_body::PetAck;
 /// What a request asks for, with its numbers already cut to the bits that count.
 #[derive(Drop)]
 pub enum Command {
+    /// Get PEF Capabilities (IPMI 2.0, section 30.1).
+    Capabilities,
+    /// Arm PEF Postpone Timer: 00h to FDh are seconds, FEh disables PEF for the time being, FFh reads alone (IPMI 2.0, section 30.2).
+    Postpone(u8),
     /// Set PEF Configuration Parameters: the octets behind the parameter octet are to be written (IPMI 2.0, section 30.3).
     SetPef {
         parameter: u8,
@@ -18,6 +22,23 @@ pub enum Command {
         set: u8,
         block: u8,
     },
+    /// Set Last Processed Event ID: the BMC's mark, or else software's, and the ID of a record (IPMI 2.0, section 30.5).
+    SetLast {
+        bmc: bool,
+        id: u16,
+    },
+    /// Get Last Processed Event ID (IPMI 2.0, section 30.6).
+    GetLast,
+    /// Alert Immediate, which sends an alert to a destination: the string that it carries, if any, by its number (IPMI 2.0, section 30.7).
+    Send {
+        channel: u8,
+        destination: u8,
+        string: Option<u8>,
+    },
+    /// Alert Immediate, which reads how the last one went (IPMI 2.0, section 30.7).
+    SendStatus,
+    /// Alert Immediate, which clears that status (IPMI 2.0, section 30.7).
+    SendClear,
     /// Set LAN Configuration Parameters: the octets behind the parameter octet are to be written (IPMI 2.0, section 23.1).
     SetLan {
         channel: u8,
@@ -33,4 +54,8 @@ pub enum Command {
     },
     /// PET Acknowledge: the fields of the trap that is acknowledged (IPMI 2.0, section 30.8).
     Acknowledge(PetAck),
+    /// Clear SEL: the erasure is to begin (IPMI 2.0, section 31.9).
+    ClearSel,
+    /// Clear SEL, which reads how the erasure goes (IPMI 2.0, section 31.9).
+    ClearStatus,
 }

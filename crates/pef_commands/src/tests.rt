@@ -13,6 +13,8 @@ fn shown(alloc: Global, parsed: Result<Command, u8>) -> Result<Vec<u8>, AllocErr
     let mut octets = Vec::new(alloc);
     match parsed {
         Err(code) => octets.push(code)?,
+        Ok(Command::Capabilities) => octets.push(0x10)?,
+        Ok(Command::Postpone(value)) => octets.extend_from_slice(&[0x11, value])?,
         Ok(Command::SetPef { parameter, payload }) => {
             octets.extend_from_slice(&[0x12, parameter])?;
             octets.extend_from_slice(payload.as_slice())?;
@@ -25,6 +27,23 @@ fn shown(alloc: Global, parsed: Result<Command, u8>) -> Result<Vec<u8>, AllocErr
                 block,
             },
         ) => octets.extend_from_slice(&[0x13, parameter, u8::from(revision_only), set, block])?,
+        Ok(Command::SetLast { bmc, id }) => {
+            octets.extend_from_slice(&[0x14, u8::from(bmc)])?;
+            octets.extend_from_slice(&id.to_be_bytes())?;
+        }
+        Ok(Command::GetLast) => octets.push(0x15)?,
+        Ok(
+            Command::Send {
+                channel,
+                destination,
+                string,
+            },
+        ) => {
+            octets.extend_from_slice(&[0x16, channel, destination])?;
+            octets.extend_from_slice(&[u8::from(string.is_some()), string.unwrap_or(0)])?;
+        }
+        Ok(Command::SendStatus) => octets.extend_from_slice(&[0x16, 0x01])?,
+        Ok(Command::SendClear) => octets.extend_from_slice(&[0x16, 0x02])?,
         Ok(
             Command::SetLan {
                 channel,
@@ -50,6 +69,8 @@ fn shown(alloc: Global, parsed: Result<Command, u8>) -> Result<Vec<u8>, AllocErr
             octets.extend_from_slice(&[ack.event_source, ack.device, ack.sensor])?;
             octets.extend_from_slice(&ack.event_data)?;
         }
+        Ok(Command::ClearSel) => octets.extend_from_slice(&[0x47, 0xAA])?,
+        Ok(Command::ClearStatus) => octets.extend_from_slice(&[0x47, 0x00])?,
     }
     Ok(octets)
 }
@@ -118,6 +139,78 @@ fn a_request_is_its_command_or_a_code(rt: HostRuntime) -> Result<(), Fail> {
         (0x0C, 0x12, &[0x00], &[0xC1]),
         (0x05, 0x13, &[0x05, 0x00, 0x00], &[0xC1]),
         (0x00, 0x00, &[], &[0xC1]),
+    ];
+    for (netfn, cmd, payload, wanted) in rows {
+        let request = Request::read(netfn, cmd, payload).ok_or("no request")?;
+        let made = shown(rt.alloc(), parse(&request))?;
+        assert_eq!(rt; made.as_slice(), wanted, "{netfn} {cmd} {payload:?}");
+    }
+    Ok(())
+}
+
+#[test]
+fn events_and_the_log_have_commands(rt: HostRuntime) -> Result<(), Fail> {
+    // Network function, command, data; and what is made of them, the most significant octet of an ID first.
+    let rows: [(u8, u8, &[u8], &[u8]); 40] = [
+        (0x04, 0x10, &[], &[0x10]),
+        (0x04, 0x10, &[0x00], &[0xC7]),
+        (0x04, 0x11, &[], &[0xC7]),
+        (0x04, 0x11, &[0xFE], &[0x11, 0xFE]),
+        (0x04, 0x11, &[0xFE, 0x00], &[0xC7]),
+        // Bit 0 is the mark.
+        (0x04, 0x14, &[0x00, 0x34], &[0xC7]),
+        (0x04, 0x14, &[0xFE, 0x34, 0x12], &[0x14, 0, 0x12, 0x34]),
+        (0x04, 0x14, &[0x01, 0xFF, 0x00], &[0x14, 1, 0x00, 0xFF]),
+        (0x04, 0x14, &[0x01, 0xFF, 0x00, 0x00], &[0xC7]),
+        (0x04, 0x15, &[], &[0x15]),
+        (0x04, 0x15, &[0x00], &[0xC7]),
+        // Alert Immediate: 83h, then the length, then the operation.
+        (0x04, 0x16, &[0xC0; 11], &[0x83]),
+        (0x04, 0x16, &[0xC0; 10], &[0xC7]),
+        (0x04, 0x16, &[0xC0; 12], &[0xC7]),
+        (0x04, 0x16, &[0x01, 0xC2], &[0xC7]),
+        (0x04, 0x16, &[0x01, 0xC2, 0x00, 0x00], &[0xC7]),
+        (0x04, 0x16, &[], &[0xC7]),
+        (0x04, 0x16, &[0x01, 0xC2, 0x00], &[0xCC]),
+        (0x04, 0x16, &[0xF1, 0xFF, 0xFF], &[0xCC]),
+        (0x04, 0x16, &[0xF1, 0x32, 0x85], &[0x16, 1, 2, 1, 5]),
+        (0x04, 0x16, &[0x0F, 0x0F, 0x7F], &[0x16, 15, 15, 0, 0]),
+        (0x04, 0x16, &[0x0F, 0x0F, 0xFF], &[0x16, 15, 15, 1, 127]),
+        (0x04, 0x16, &[0x01, 0x42, 0x85], &[0x16, 0x01]),
+        (0x04, 0x16, &[0x01, 0x82, 0x85], &[0x16, 0x02]),
+        // Clear SEL: the length, then the letters, then the operation.
+        (0x0A, 0x47, &[0x00, 0x00, 0x43, 0x4C, 0x53], &[0xC7]),
+        (
+            0x0A,
+            0x47,
+            &[0x00, 0x00, 0x43, 0x4C, 0x52, 0xAA, 0x00],
+            &[0xC7],
+        ),
+        (0x0A, 0x47, &[], &[0xC7]),
+        (0x0A, 0x47, &[0x00, 0x00, 0x42, 0x4C, 0x52, 0xAA], &[0xCC]),
+        (0x0A, 0x47, &[0x00, 0x00, 0x43, 0x4D, 0x52, 0xAA], &[0xCC]),
+        (0x0A, 0x47, &[0x00, 0x00, 0x43, 0x4C, 0x53, 0x00], &[0xCC]),
+        (0x0A, 0x47, &[0x00, 0x00, 0x43, 0x4C, 0x52, 0xAB], &[0xCC]),
+        (0x0A, 0x47, &[0x00, 0x00, 0x43, 0x4C, 0x52, 0x01], &[0xCC]),
+        (
+            0x0A,
+            0x47,
+            &[0x12, 0x34, 0x43, 0x4C, 0x52, 0xAA],
+            &[0x47, 0xAA],
+        ),
+        (
+            0x0A,
+            0x47,
+            &[0x12, 0x34, 0x43, 0x4C, 0x52, 0x00],
+            &[0x47, 0x00],
+        ),
+        // The neighbours are no commands.
+        (0x04, 0x0F, &[], &[0xC1]),
+        (0x04, 0x18, &[], &[0xC1]),
+        (0x0A, 0x10, &[], &[0xC1]),
+        (0x0A, 0x46, &[0x00, 0x00, 0x43, 0x4C, 0x52, 0xAA], &[0xC1]),
+        (0x04, 0x47, &[0x00, 0x00, 0x43, 0x4C, 0x52, 0xAA], &[0xC1]),
+        (0x0C, 0x10, &[], &[0xC1]),
     ];
     for (netfn, cmd, payload, wanted) in rows {
         let request = Request::read(netfn, cmd, payload).ok_or("no request")?;

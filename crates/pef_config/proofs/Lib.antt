@@ -3,3 +3,4 @@ pub mod InitialFilters
 pub mod InitialTables
 pub mod Written
 pub mod Examples
+pub mod Powered

@@ -131,3 +131,18 @@ PutsAt w old new = (place : Place) → new place ≡ last_or (old place) (writte
 -- a write that was answered 00h is accepted, any other isn't
 abbrev pub with_write : ℕ → Write → List Write → List Write
 with_write code w earlier = if code == 0x00 then w ∷ earlier else earlier
+
+-- String 0 and its key are volatile, and a set in progress ends with the power: the power counts as writes of zeros to set in progress, to
+-- the key of string 0 and to its blocks, each of which is filled up with 00h.
+abbrev pub zeros_to_block : ℕ → Write
+zeros_to_block block = write 13 (0 ∷ block ∷ 0 ∷ [])
+
+abbrev pub power_writes : List Write
+power_writes = write 0 (0 ∷ []) ∷ write 12 (replicate 3 0) ∷ zeros_to_block 1 ∷ zeros_to_block 2 ∷ zeros_to_block 3 ∷ zeros_to_block 4 ∷ []
+
+-- What stands behind them: zeros at these places, and every other place is as it was.
+abbrev pub powered : Tables → Tables
+powered tables SetInProgress = 0 ∷ []
+powered tables (StringKey n) = if n == 0 then replicate 2 0 else tables (StringKey n)
+powered tables (Block n block) = if (n == 0) && is_number 4 block then replicate 16 0 else tables (Block n block)
+powered tables place = tables place

@@ -28,10 +28,10 @@ pub struct Config {
 }
 
 impl Config {
-    ghost use Rattle.std.specs.Prelude.{◌≡◌, ◌≢◌, ℕ, List, [], ◌∷◌};
+    ghost use Rattle.std.specs.Prelude.{◌≡◌, ◌≢◌, ℕ, List, [], ◌∷◌, ◌++◌};
     ghost use Rattle.filter_table.specs.Filters.{numbered};
     ghost use Rattle.pef_config.specs.declared.initial.Initial.{Initial};
-    ghost use Rattle.pef_config.specs.Places.{our_sizes, Control, Actions, Delay, Policy, StringKey, Block, filter_at, guid_in, Write, write, with_write, Holds, PutsAt};
+    ghost use Rattle.pef_config.specs.Places.{our_sizes, Control, Actions, Delay, Policy, StringKey, Block, filter_at, guid_in, Write, write, with_write, power_writes, powered, Holds, PutsAt};
     ghost use Rattle.pef_config.specs.Rows.{set_code, get_reply};
     ghost use Rattle.pef_config.specs.Kept.{tables, key_at, block_at};
 
@@ -78,6 +78,22 @@ impl Config {
             STRING => put_block(&mut self.strings, payload),
             _ => NO_PARAMETER,
         }
+    }
+
+    /// The power came back: set in progress, and string 0 with its key, which are volatile, become zeros.
+    pub fn power(&mut self)
+        ensures powered { tables self.new ≡ powered (tables self.old) }
+        ensures values { (initial : Initial) (writes : List Write)
+            → Holds our_sizes initial writes (tables self.old)
+            → Holds our_sizes initial (power_writes ++ writes) (tables self.new) }
+    {
+        // each of these writes is accepted, and a block is filled up with 00h
+        self.set(STRING, &[0, 4, 0]);
+        self.set(STRING, &[0, 3, 0]);
+        self.set(STRING, &[0, 2, 0]);
+        self.set(STRING, &[0, 1, 0]);
+        self.set(STRING_KEY, &[0, 0, 0]);
+        self.set(SET_IN_PROGRESS, &[0]);
     }
 
     /// The reply to a read of a parameter, from the completion code on: its revision, unless that alone is asked for the

@@ -169,3 +169,38 @@ fn what_is_written_counts(rt: HostRuntime) -> Result<(), Fail> {
     assert_eq!(rt; config.filters().get(16)?.write(), [0; 20]);
     Ok(())
 }
+
+#[test]
+fn power_clears_what_is_volatile(rt: HostRuntime) {
+    // The parameter, its octets as they are written, and as they are read once the power came back.
+    let rows: [(u8, &[u8], &[u8]); 14] = [
+        (0, &[0x01], &[0x00]),
+        (1, &[0x07], &[0x07]),
+        (2, &[0x3D], &[0x3D]),
+        (3, &[0x09], &[0x09]),
+        (7, &[0x01, 0xC0], &[0x01, 0xC0]),
+        (9, &[0x01, 0x18, 0x11, 0x00], &[0x01, 0x18, 0x11, 0x00]),
+        (12, &[0x00, 0x01, 0x82], &[0x00, 0x00, 0x00]),
+        (12, &[0x01, 0x01, 0x82], &[0x01, 0x01, 0x82]),
+        (13, &[0x00, 0x01, 0x66], &[0x00, 0x01, 0x00]),
+        (13, &[0x00, 0x02, 0x66], &[0x00, 0x02, 0x00]),
+        (13, &[0x00, 0x03, 0x66], &[0x00, 0x03, 0x00]),
+        (13, &[0x00, 0x04, 0x66], &[0x00, 0x04, 0x00]),
+        (13, &[0x01, 0x01, 0x66], &[0x01, 0x01, 0x66]),
+        (13, &[0x08, 0x04, 0x66], &[0x08, 0x04, 0x66]),
+    ];
+    let mut config = Config::new(&INITIAL);
+    for (parameter, payload, _) in rows {
+        assert_eq!(rt; config.set(parameter, payload), 0x00);
+    }
+    config.power();
+    for (parameter, payload, wanted) in rows {
+        let selector = payload.first().copied().unwrap_or(0);
+        let block = payload.get(1).copied().unwrap_or(0);
+        let read = config.get(parameter, false, selector, block);
+        let Some(value) = read.as_slice().get(2..) else {
+            panic!(rt; "{parameter} {payload:?}: no value");
+        };
+        assert!(rt; value.starts_with(wanted), "{parameter} {payload:?}");
+    }
+}

@@ -46,12 +46,12 @@ alerts_job = record {
   act = Some Reset;
   targets = target 1 1 0 acknowledged ∷ target 1 2 1 once ∷ target 2 3 0 once ∷ target 2 4 2 once ∷ [];
   oem = true;
-  event = fan_with 1 0x02 0x52;
+  event = Some (fan_with 1 0x02 0x52);
 }
 
 -- the undertaking of record 1, before which four alerts were begun, with what counts since, the latest first
 abbrev undertaking : List Counts → Undertaking
-undertaking since = record { number = 1; job = alerts_job; guid = replicate 16 0; drawn = 4; since = since }
+undertaking since = record { number = Some 1; job = alerts_job; guid = replicate 16 0; drawn = 4; since = since }
 
 -- the acknowledgement of the fan's trap with this sequence number and this event data 3
 abbrev ack : ℕ → ℕ → Counts

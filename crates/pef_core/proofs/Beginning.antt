@@ -7,9 +7,8 @@ use Rattle.std.proofs.lemmas.Option.{slice_get_within, get_or_from_slice_get, sl
 use Rattle.pef_core.specs.declared.controller.Controller.{Controller}
 use Rattle.pef_core.specs.declared.turn.Turn.{Turn}
 use Rattle.pef_core.specs.declared.work.Work.{Work}
-use Rattle.pef_core.specs.Course.{is_enabled}
-use Rattle.pef_core.specs.Values.{Now, Values, stamp_at}
-use Rattle.pef_core.specs.After.{first_turn, work_of, begins, begin_with, begin_jobs_now, force_of, begun, with_next_job}
+use Rattle.pef_core.specs.Values.{Now, Values, stamp_at, force_of}
+use Rattle.pef_core.specs.After.{first_turn, work_of, begins, begin_with, begin_jobs_now, begun, may_begin_now, with_next_job}
 use Rattle.pef_core.specs.View.{shown}
 
 abbrev with_now : Values → Now → Values
@@ -39,23 +38,23 @@ module _ (c : Controller) (w : Work) (waiting : Waits c w) where
   abbrev later : Now → Now
   later = begin_jobs_now (force_of (shown c)) (stamp_at c.ticks) (drop (c.mark + 1) c.log)
 
-  turn : begun (shown c) ≡ with_now (shown c) (begin_with later w (stamp_at c.ticks) (first_turn w.job) (shown c).now)
+  turn : begun (shown c) ≡ with_now (shown c) (begin_with later (c.mark + 1) w (stamp_at c.ticks) (first_turn w.job) (shown c).now)
   turn = ap (with_now (shown c)) (
       at_drop_more (λ events. begin_jobs_now (force_of (shown c)) (stamp_at c.ticks) events (shown c).now) c.log c.mark waiting.event (slice_get_within c.log c.mark waiting.event waiting.there)
       ∙ ap (λ x. begin_jobs_now (force_of (shown c)) (stamp_at c.ticks) (x ∷ drop (c.mark + 1) c.log) (shown c).now) (get_or_from_slice_get c.log c.mark waiting.event waiting.event waiting.there)
-      ∙ ap (λ x. begin_with later x (stamp_at c.ticks) (first_turn x.job) (shown c).now) (sym waiting.is))
+      ∙ ap (λ x. begin_with later (c.mark + 1) x (stamp_at c.ticks) (first_turn x.job) (shown c).now) (sym waiting.is))
 
   pub is_within : c.mark < length c.log
   is_within = slice_get_within c.log c.mark waiting.event waiting.there
 
   -- nothing is to be done for the record
   pub passes : first_turn w.job ≡ None → begun (shown (record c { mark = c.mark + 1 })) ≡ begun (shown c)
-  passes none = ap (λ n. with_now (shown c) (later (record (shown c).now { mark = n }))) (ap (λ x. x.number) (sym waiting.is)) ∙ sym (turn ∙ ap (λ o. with_now (shown c) (begin_with later w (stamp_at c.ticks) o (shown c).now)) none)
+  passes none = sym (turn ∙ ap (λ o. with_now (shown c) (begin_with later (c.mark + 1) w (stamp_at c.ticks) o (shown c).now)) none)
 
   -- its job runs
-  pub begins_then : (o : Option Turn) (some : is_some o ≡ true) → first_turn w.job ≡ o → with_now (shown c) (begins w (stamp_at c.ticks) o (shown c).now) ≡ begun (shown c)
+  pub begins_then : (o : Option Turn) (some : is_some o ≡ true) → first_turn w.job ≡ o → with_now (shown c) (begins w (stamp_at c.ticks) o None (shown c).now) ≡ begun (shown c)
   begins_then None some first = absurd (cc some)
-  begins_then (Some t) some first = sym (turn ∙ ap (λ o. with_now (shown c) (begin_with later w (stamp_at c.ticks) o (shown c).now)) first)
+  begins_then (Some t) some first = sym (turn ∙ ap (λ o. with_now (shown c) (begin_with later (c.mark + 1) w (stamp_at c.ticks) o (shown c).now)) first)
 
 -- no record is left
 pub ends : (c : Controller) → option_map (work_for c) (slice_get c.log c.mark) ≡ None → shown c ≡ begun (shown c)
@@ -67,10 +66,10 @@ ends c none =
     past_end (inl found) = let some = sym (ap (option_map (work_for c)) found.2) ∙ none in absurd (cc some)
 
 -- a job may begin
-pub next_is_begun : (v : Values) → is_some v.now.running ≡ false → is_enabled v.pef ≡ true → begun v ≡ with_next_job v
+pub next_is_begun : (v : Values) → is_some v.now.running ≡ false → may_begin_now v ≡ true → begun v ≡ with_next_job v
 next_is_begun v idle enabled =
-    let may : (not (is_some v.now.running) && is_enabled v.pef) ≡ true = ap (λ b. not b && is_enabled v.pef) idle ∙ enabled in
-    sym (cond-true (not (is_some v.now.running) && is_enabled v.pef) (begun v) v may)
+    let may : (not (is_some v.now.running) && may_begin_now v) ≡ true = ap (λ b. not b && may_begin_now v) idle ∙ enabled in
+    sym (cond-true (not (is_some v.now.running) && may_begin_now v) (begun v) v may)
 
 pub none_if : (turn : Option Turn) → is_some turn ≡ false → turn ≡ None
 none_if None none = refl

@@ -10,7 +10,7 @@ use Rattle.pef_engine.specs.declared.marks.Mark.TheVariants.{Open as Opened, Clo
 use Rattle.pef_engine.specs.Marks.{mark_octets, IsMark, ReadsMark}
 use Rattle.pef_engine.specs.Rules.{Decodes}
 use Rattle.pef_core.specs.declared.item.Item.{Item}
-use Rattle.pef_core.specs.declared.item.Item.TheVariants.{Event, Command, Tick, Open, Close}
+use Rattle.pef_core.specs.declared.item.Item.TheVariants.{Event, Command, Tick, Power, Open, Close}
 use Rattle.pef_core.specs.Histories.{IsRequest, IsEntry, encode, controller_rules}
 use Rattle.pef_core.specs.Entries.{marked, ReadsEvent, ReadsCommand}
 
@@ -27,11 +27,18 @@ no_command Closed rest same = cc same
 no_command (Told Done) rest same = cc same
 no_command (Told Failed) rest same = cc same
 
+-- nor is one of these tags alone
 no_tick : (m : Mark) → 0x03 ∷ [] ≡ mark_octets m → ⊥
 no_tick (Opened id count) same = cc same
 no_tick Closed same = cc same
 no_tick (Told Done) same = cc same
 no_tick (Told Failed) same = cc same
+
+no_power : (m : Mark) → 0x04 ∷ [] ≡ mark_octets m → ⊥
+no_power (Opened id count) same = cc same
+no_power Closed same = cc same
+no_power (Told Done) same = cc same
+no_power (Told Failed) same = cc same
 
 right_of : (octets : List ℕ) (m : Mark) → IsMark m × (mark_octets m ≡ octets) → IsEntry (marked m) × (encode (marked m) ≡ octets)
 right_of octets (Opened id count) right = right
@@ -55,6 +62,7 @@ decodes_event octets event reads = found_as (Taken (Event event)) is found
     found (Taken (Event other)) entry same = ap (option_map (λ x. Taken (Event x))) (reads.found other entry same)
     found (Taken (Command asked)) entry same = let here = is.1 in absurd (cc (same, here))
     found (Taken Tick) entry same = let here = is.1 in absurd (cc (same, here))
+    found (Taken Power) entry same = let here = is.1 in absurd (cc (same, here))
     found (Taken (Open id count)) entry same = absurd (no_event (Opened id count) event (is.1 ∙ sym same))
     found (Taken Close) entry same = absurd (no_event Closed event (is.1 ∙ sym same))
     found (Outcome told) entry same = absurd (no_event (Told told) event (is.1 ∙ sym same))
@@ -69,6 +77,7 @@ decodes_command octets asked reads = found_as (Taken (Command asked)) is found
     found (Taken (Event event)) entry same = let here = is.1 in absurd (cc (same, here))
     found (Taken (Command other)) entry same = ap (option_map (λ x. Taken (Command x))) (reads.found other entry same)
     found (Taken Tick) entry same = let here = is.1 in absurd (cc (same, here))
+    found (Taken Power) entry same = let here = is.1 in absurd (cc (same, here))
     found (Taken (Open id count)) entry same = absurd (no_command (Opened id count) _ (is.1 ∙ sym same))
     found (Taken Close) entry same = absurd (no_command Closed _ (is.1 ∙ sym same))
     found (Outcome told) entry same = absurd (no_command (Told told) _ (is.1 ∙ sym same))
@@ -80,11 +89,24 @@ decodes_tick octets is = found_as (Taken Tick) (tt, sym is) found
     found (Taken (Event event)) entry same = absurd (cc (same, is))
     found (Taken (Command asked)) entry same = absurd (cc (same, is))
     found (Taken Tick) entry same = refl
+    found (Taken Power) entry same = absurd (cc (same, is))
     found (Taken (Open id count)) entry same = absurd (no_tick (Opened id count) (sym is ∙ sym same))
     found (Taken Close) entry same = absurd (no_tick Closed (sym is ∙ sym same))
     found (Outcome told) entry same = absurd (no_tick (Told told) (sym is ∙ sym same))
 
-module _ (octets : List ℕ) (no_events : ReadsEvent octets None) (no_commands : ReadsCommand octets None) (not_tick : octets ≢ 0x03 ∷ []) where
+pub decodes_power : (octets : List ℕ) → octets ≡ 0x04 ∷ [] → Decodes controller_rules octets (Some (Taken Power))
+decodes_power octets is = found_as (Taken Power) (tt, sym is) found
+  where
+    found : (e : Entry Item) → IsEntry e → encode e ≡ octets → Some (Taken Power) ≡ Some e
+    found (Taken (Event event)) entry same = absurd (cc (same, is))
+    found (Taken (Command asked)) entry same = absurd (cc (same, is))
+    found (Taken Tick) entry same = absurd (cc (same, is))
+    found (Taken Power) entry same = refl
+    found (Taken (Open id count)) entry same = absurd (no_power (Opened id count) (sym is ∙ sym same))
+    found (Taken Close) entry same = absurd (no_power Closed (sym is ∙ sym same))
+    found (Outcome told) entry same = absurd (no_power (Told told) (sym is ∙ sym same))
+
+module _ (octets : List ℕ) (no_events : ReadsEvent octets None) (no_commands : ReadsCommand octets None) (not_tick : octets ≢ 0x03 ∷ []) (not_power : octets ≢ 0x04 ∷ []) where
   pub decodes_mark : (m : Mark) → ReadsMark octets (Some m) → Decodes controller_rules octets (Some (marked m))
   decodes_mark m reads = found_as (marked m) (right_of octets m (reads.right m refl)) found
     where
@@ -92,6 +114,7 @@ module _ (octets : List ℕ) (no_events : ReadsEvent octets None) (no_commands :
       found (Taken (Event event)) entry same = absurd (cc (no_events.found event entry same))
       found (Taken (Command asked)) entry same = absurd (cc (no_commands.found asked entry same))
       found (Taken Tick) entry same = absurd (not_tick (sym same))
+      found (Taken Power) entry same = absurd (not_power (sym same))
       found (Taken (Open id count)) entry same = ap (option_map marked) (reads.found (Opened id count) entry same)
       found (Taken Close) entry same = ap (option_map marked) (reads.found Closed tt same)
       found (Outcome told) entry same = ap (option_map marked) (reads.found (Told told) tt same)
@@ -103,6 +126,7 @@ module _ (octets : List ℕ) (no_events : ReadsEvent octets None) (no_commands :
       found (Taken (Event event)) entry same = absurd (cc (no_events.found event entry same))
       found (Taken (Command asked)) entry same = absurd (cc (no_commands.found asked entry same))
       found (Taken Tick) entry same = absurd (not_tick (sym same))
+      found (Taken Power) entry same = absurd (not_power (sym same))
       found (Taken (Open id count)) entry same = absurd (cc (none.found (Opened id count) entry same))
       found (Taken Close) entry same = absurd (cc (none.found Closed tt same))
       found (Outcome told) entry same = absurd (cc (none.found (Told told) tt same))

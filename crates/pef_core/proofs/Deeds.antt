@@ -1,117 +1,176 @@
 -- What a deed changes in a controller.
-use Rattle.std.proofs.Common.{◌≡◌, ◌≢◌, ℕ, Bool, true, false, cond, eqb, List, Option, Some, None, refl, sym, ◌∙◌, ap, eqb-true}
-use Rattle.std.specs.Prelude.{option_map}
+use Rattle.std.proofs.Common.{◌≡◌, ◌≢◌, ℕ, ◌+◌, ◌-◌, ◌%◌, ◌≤◌, ◌<◌, Bool, true, false, cond, eqb, List, [], ◌∷◌, length, take, Option, Some, None, refl, sym, ◌∙◌, ap, eqb-true, leb, leb-true, arith}
+use Rattle.std.specs.Prelude.{◌==◌, not, IfSome}
 use Rattle.std.proofs.Math.Path.{fun_ext}
 use Rattle.event_record.specs.declared.fault.RecordFault.{RecordFault}
 use Rattle.event_record.specs.declared.fault.LogFault.{LogFault}
 use Rattle.event_record.specs.Rules.{record_fault}
 use Rattle.event_record.specs.Log.{add_fault}
 use Rattle.lan_dest.specs.Parameters as lan
-use Rattle.pef_config.specs.Places.{Tables, Write, PutsAt}
-use Rattle.lan_dest.specs.declared.lan.Lan.{Lan}
 use Rattle.lan_dest.specs.Kept.{kept}
-use Rattle.pef_commands.specs.Request.{Asked}
-use Rattle.pef_config.specs.declared.config.Config.{Config}
+use Rattle.pef_config.specs.Places.{Tables, Write, PutsAt, powered}
+use Rattle.pef_config.specs.Rows.{answer_if}
+use Rattle.pef_match.specs.AtOnce.{at_once}
+use Rattle.pef_match.specs.Parts.{Parts}
+use Rattle.pef_match.specs.declared.target.Target.{Target}
 use Rattle.pef_config.specs.Kept.{tables}
 use Rattle.pef_core.specs.declared.controller.Controller.{Controller}
-use Rattle.pef_core.specs.declared.item.Item.TheVariants.{Event, Command}
+use Rattle.pef_core.specs.declared.counts.Counts.{Counts}
+use Rattle.pef_core.specs.declared.counts.Counts.TheVariants.{Second}
+use Rattle.pef_core.specs.declared.item.Item.TheVariants.{Event}
 use Rattle.pef_core.specs.declared.note.Note.{Note}
 use Rattle.pef_core.specs.declared.note.Note.TheVariants.{Nothing}
-use Rattle.pef_core.specs.Past.{Effect, SetPef, SetLan, acked_in}
-use Rattle.pef_core.specs.declared.counts.Counts.{Counts}
-use Rattle.pef_core.specs.declared.counts.Counts.TheVariants.{Ack}
+use Rattle.pef_core.specs.declared.postpone.Postpone.{Postpone}
+use Rattle.pef_core.specs.declared.postpone.Postpone.TheVariants.{Seconds}
 use Rattle.pef_core.specs.declared.turn.Turn.{Turn}
+use Rattle.pef_core.specs.declared.turn.Turn.TheVariants.{ToAlert}
 use Rattle.pef_core.specs.declared.work.Work.{Work}
-use Rattle.pet_body.specs.declared.ack.PetAck.{PetAck}
-use Rattle.pef_core.specs.Running.{Running}
-use Rattle.pef_core.specs.Values.{Now, Values, stamp_at}
-use Rattle.pef_core.specs.Deeds.{event_deed, item_deed}
-use Rattle.pef_core.specs.Replies.{answer, answer_to_write}
-use Rattle.pef_core.specs.After.{pef_with, lan_with, records_after, note_after, begins, counted_now, moved_by, with_deed}
+use Rattle.pef_core.specs.Past.{Unchanged, SetPef, SetLan, Armed, Marked, SoftwareMarked, Cleared, Sends, Replied, Ticked, Powered, delay_by, less_by, records_with, note_with}
+use Rattle.pef_core.specs.Course.{guid_by, number_of}
+use Rattle.pef_core.specs.Running.{Running, IsTurn}
+use Rattle.pef_core.specs.Undertaking.{set_at}
+use Rattle.pef_core.specs.Values.{Now, Values, stamp_at, force_of}
+use Rattle.pef_core.specs.Deeds.{event_deed, item_deed, reply_deed}
+use Rattle.pef_core.specs.Replies.{Answer, refusal, telling, done_with, answer_to_write, timer_octet, armed_by, arm, is_no_string, cleared}
+use Rattle.pef_core.specs.After.{begins, counted_now, with_deed}
 use Rattle.pef_core.specs.View.{shown}
+use Rattle.pef_core.proofs.TurnOrder.{eq_self}
 
 event_changes : (bad : Option RecordFault) (full : Option LogFault) (event : List ℕ) (v : Values)
-    → record v { records = records_after (event_deed bad full event) v.records; note = note_after (event_deed bad full event) Nothing; reply = None }
+    → record v { records = records_with (event_deed bad full event) v.records; note = note_with (event_deed bad full event) Nothing; reply = None }
     ≡ with_deed (event_deed bad full event) v
 event_changes (Some fault) full event v = refl
 event_changes None (Some fault) event v = refl
 event_changes None None event v = refl
 
 pub event_shows : (c : Controller) (log : List (List ℕ)) (note : Note) (octets : List ℕ)
-    → note ≡ note_after (event_deed (record_fault octets) (add_fault c.log octets) octets) Nothing
-    → log ≡ records_after (event_deed (record_fault octets) (add_fault c.log octets) octets) c.log
+    → note ≡ note_with (event_deed (record_fault octets) (add_fault c.log octets) octets) Nothing
+    → log ≡ records_with (event_deed (record_fault octets) (add_fault c.log octets) octets) c.log
     → shown (record c { log = log; note = note; reply = None }) ≡ with_deed (item_deed (shown c) (Event octets)) (shown c)
 event_shows c log note octets note_is log_is =
     ap (λ x. shown (record c { log = x; note = note; reply = None })) log_is
-    ∙ ap (λ x. record (shown c) { records = records_after (event_deed (record_fault octets) (add_fault c.log octets) octets) c.log; note = x; reply = None }) note_is
+    ∙ ap (λ x. record (shown c) { records = records_with (event_deed (record_fault octets) (add_fault c.log octets) octets) c.log; note = x; reply = None }) note_is
     ∙ event_changes (record_fault octets) (add_fault c.log octets) octets (shown c)
 
--- a write is accepted where its code is 00h
-accepted : {X : Type 0} (code : ℕ) (effect : Effect) (with : Effect → X → X) (unchanged : (x : X) → with (answer_to_write 1 effect).effect x ≡ x) (old new : X)
-    → (code ≡ 0 → new ≡ with effect old) → (code ≢ 0 → new ≡ old) → new ≡ with (answer_to_write code effect).effect old
-accepted code effect with unchanged old new written kept = by (eqb code 0) refl
+-- a controller with the reply to a command
+abbrev pub replied : List ℕ → Values → Values
+replied octets v = record v { note = Nothing; reply = Some octets }
+
+-- A write is accepted where its code is 00h, and else nothing is written.
+pub pef_write_shows : (c : Controller) (code : ℕ) (w : Write) (new : Tables) → (code ≡ 0 → PutsAt w (tables c.config) new) → (code ≢ 0 → new ≡ tables c.config)
+    → replied (code ∷ []) (record (shown c) { pef = new }) ≡ with_deed (reply_deed (answer_to_write code (SetPef w))) (shown c)
+pef_write_shows c code w new written kept = by (eqb code 0) refl
   where
-    by : (b : Bool) → eqb code 0 ≡ b → new ≡ with (cond b effect (answer_to_write 1 effect).effect) old
-    by true is = written (eqb-true code 0 is)
-    by false is = kept (λ zero. absurd (cc (zero, is))) ∙ sym (unchanged old)
+    by : (b : Bool) → eqb code 0 ≡ b → replied (code ∷ []) (record (shown c) { pef = new }) ≡ with_deed (Replied (code ∷ []) (cond b (SetPef w) Unchanged)) (shown c)
+    by true is = ap (λ t. replied (code ∷ []) (record (shown c) { pef = t })) (fun_ext (written (eqb-true code 0 is)))
+    by false is = ap (λ t. replied (code ∷ []) (record (shown c) { pef = t })) (kept (λ zero. absurd (cc (zero, is))))
 
-pub pef_accepted : (code : ℕ) (w : Write) (old new : Tables) → (code ≡ 0 → PutsAt w old new) → (code ≢ 0 → new ≡ old)
-    → new ≡ pef_with (answer_to_write code (SetPef w)).effect old
-pef_accepted code w old new written kept = accepted code (SetPef w) pef_with (λ x. refl) old new (λ zero. fun_ext (written zero)) kept
-
-pub lan_accepted : (code : ℕ) (w : lan.Write) (old new : lan.Tables) → (code ≡ 0 → new ≡ lan.written w old) → (code ≢ 0 → new ≡ old)
-    → new ≡ lan_with (answer_to_write code (SetLan w)).effect old
-lan_accepted code w old new written kept = accepted code (SetLan w) lan_with (λ x. refl) old new written kept
-
--- a write of the one kind changes nothing of the other
-pub pef_stays : (code : ℕ) (w : lan.Write) (values : Tables) → values ≡ pef_with (answer_to_write code (SetLan w)).effect values
-pef_stays code w values = accepted code (SetLan w) pef_with (λ x. refl) values values (λ zero. refl) (λ other. refl)
-
-pub lan_stays : (code : ℕ) (w : Write) (values : lan.Tables) → values ≡ lan_with (answer_to_write code (SetPef w)).effect values
-lan_stays code w values = accepted code (SetPef w) lan_with (λ x. refl) values values (λ zero. refl) (λ other. refl)
-
--- a write acknowledges nothing
-pub pef_acks_none : (code : ℕ) (w : Write) → None ≡ acked_in (answer_to_write code (SetPef w)).effect
-pef_acks_none code w = by (eqb code 0)
+pub lan_write_shows : (c : Controller) (code : ℕ) (w : lan.Write) (new : lan.Tables) → (code ≡ 0 → new ≡ lan.written w (kept c.lan)) → (code ≢ 0 → new ≡ kept c.lan)
+    → replied (code ∷ []) (record (shown c) { lan = new }) ≡ with_deed (reply_deed (answer_to_write code (SetLan w))) (shown c)
+lan_write_shows c code w new written kept_is = by (eqb code 0) refl
   where
-    by : (b : Bool) → None ≡ acked_in (cond b (SetPef w) (answer_to_write 1 (SetPef w)).effect)
+    by : (b : Bool) → eqb code 0 ≡ b → replied (code ∷ []) (record (shown c) { lan = new }) ≡ with_deed (Replied (code ∷ []) (cond b (SetLan w) Unchanged)) (shown c)
+    by true is = ap (λ t. replied (code ∷ []) (record (shown c) { lan = t })) (written (eqb-true code 0 is))
+    by false is = ap (λ t. replied (code ∷ []) (record (shown c) { lan = t })) (kept_is (λ zero. absurd (cc (zero, is))))
+
+-- a check that refuses, and one that doesn't
+pub refused : (v : Values) (b : Bool) (code : ℕ) (rest : Answer) → b ≡ true → replied (code ∷ []) v ≡ with_deed (reply_deed (answer_if b (refusal code) rest)) v
+refused v true code rest is = refl
+refused v false code rest is = absurd (cc is)
+
+pub passes : (v x : Values) (b : Bool) (code : ℕ) (rest : Answer) → b ≡ false → x ≡ with_deed (reply_deed rest) v → x ≡ with_deed (reply_deed (answer_if b (refusal code) rest)) v
+passes v x true code rest is shows = absurd (cc is)
+passes v x false code rest is shows = shows
+
+pub arms : (v : Values) (octet : ℕ) (timer : Postpone) (octets : List ℕ) → timer ≡ cond (eqb octet 0xFF) v.postpone (armed_by octet) → octets ≡ 0x00 ∷ timer_octet timer ∷ []
+    → replied octets (record v { postpone = timer }) ≡ with_deed (reply_deed (arm v.postpone octet)) v
+arms v octet timer octets timer_is octets_are =
+    ap (λ o. replied o (record v { postpone = timer })) octets_are
+    ∙ ap (λ t. replied (0x00 ∷ timer_octet t ∷ []) (record v { postpone = t })) timer_is
+    ∙ by (eqb octet 0xFF)
+  where
+    by : (b : Bool) → replied (0x00 ∷ timer_octet (cond b v.postpone (armed_by octet)) ∷ []) (record v { postpone = cond b v.postpone (armed_by octet) })
+        ≡ with_deed (reply_deed (cond b (telling (timer_octet v.postpone ∷ [])) (record { octets = 0x00 ∷ timer_octet (armed_by octet) ∷ []; effect = Armed (armed_by octet) }))) v
     by true = refl
     by false = refl
 
-pub lan_acks_none : (code : ℕ) (w : lan.Write) → None ≡ acked_in (answer_to_write code (SetLan w)).effect
-lan_acks_none code w = by (eqb code 0)
+pub clears : (v : Values) (records : List (List ℕ)) (octets : List ℕ) → records ≡ [] → octets ≡ 0x00 ∷ cleared
+    → replied octets (record v { records = records; software = 0x0000; now = record v.now { mark = 0 } }) ≡ with_deed (reply_deed (record { octets = 0x00 ∷ cleared; effect = Cleared })) v
+clears v records octets none octets_are =
+    ap (λ o. replied o (record v { records = records; software = 0x0000; now = record v.now { mark = 0 } })) octets_are
+    ∙ ap (λ r. replied (0x00 ∷ cleared) (record v { records = r; software = 0x0000; now = record v.now { mark = 0 } })) none
+
+-- a second
+pub ticks_on : (v : Values) (delay : ℕ) (timer : Postpone) → delay ≡ v.delay - 1 → timer ≡ less_by 1 v.postpone
+    → record v {
+      ticks = (v.ticks + 1) % 4294967296;
+      delay = delay;
+      postpone = timer;
+      note = Nothing;
+      reply = None;
+      now = counted_now Second (stamp_at ((v.ticks + 1) % 4294967296)) v.now.running v.now;
+    } ≡ with_deed Ticked v
+ticks_on v delay timer delay_is timer_is =
+    ap (λ d. record (with_deed Ticked v) { delay = d; postpone = timer }) delay_is
+    ∙ ap (λ t. record (with_deed Ticked v) { postpone = t }) timer_is
+
+-- the power
+pub powers : (v : Values) (pef : Tables) (kept : lan.Tables) (delay : ℕ) → pef ≡ powered v.pef → kept ≡ lan.powered v.lan → delay ≡ delay_by pef
+    → record v { pef = pef; lan = kept; delay = delay; postpone = Seconds 0; note = Nothing; reply = None } ≡ with_deed Powered v
+powers v pef kept delay pef_is lan_is delay_is =
+    ap (λ d. record v { pef = pef; lan = kept; delay = d; postpone = Seconds 0; note = Nothing; reply = None }) delay_is
+    ∙ ap (λ k. record v { pef = pef; lan = k; delay = delay_by pef; postpone = Seconds 0; note = Nothing; reply = None }) lan_is
+    ∙ ap (λ p. record v { pef = p; lan = lan.powered v.lan; delay = delay_by p; postpone = Seconds 0; note = Nothing; reply = None }) pef_is
+
+-- an alert at once
+abbrev pub sent_by : Values → Work → Values
+sent_by v work = replied (0x00 ∷ []) (record v { now = begins work (stamp_at v.ticks) (Some (ToAlert 0 0)) None (record v.now { status = 0xFF }) })
+
+pub sends : (v : Values) (target : Target) (job : Parts) (guid : List ℕ) → job ≡ at_once target → guid ≡ guid_by (force_of v)
+    → sent_by v (record { number = None; job = job; guid = guid }) ≡ with_deed (reply_deed (done_with (Sends target (guid_by (force_of v))))) v
+sends v target job guid job_is guid_is =
+    ap (λ j. sent_by v (record { number = None; job = j; guid = guid })) job_is
+    ∙ ap (λ g. sent_by v (record { number = None; job = at_once target; guid = g })) guid_is
+
+pub first_turn_is : (target : Target) → IsTurn (at_once target).targets (ToAlert 0 0)
+first_turn_is target = (omega arith, omega (arith, set_is_one))
   where
-    by : (b : Bool) → None ≡ acked_in (cond b (SetLan w) (answer_to_write 1 (SetLan w)).effect)
-    by true = refl
-    by false = refl
+    set_is_one : length (set_at (target ∷ []) 0) ≡ 1
+    set_is_one = by (target.policy_number == target.policy_number) (eq_self target.policy_number)
+      where
+        by : (b : Bool) → b ≡ true → length (take (cond b (1 + 0) 0) (target ∷ [])) ≡ 1
+        by true is = refl
+        by false is = absurd (cc is)
 
--- a command's reply, and what it wrote, before what it acknowledges
-abbrev pub replied : Controller → Asked → Values
-replied c asked = record (shown c) {
-  pef = pef_with (answer (tables c.config) (kept c.lan) asked).effect (tables c.config);
-  lan = lan_with (answer (tables c.config) (kept c.lan) asked).effect (kept c.lan);
-  note = Nothing;
-  reply = Some (answer (tables c.config) (kept c.lan) asked).octets;
-}
+-- the marks
+pub marks : (v : Values) (bmc : Bool) (id number : ℕ) → bmc ≡ true → number_of v.records id ≡ number
+    → replied (0x00 ∷ []) (record v { now = record v.now { mark = number } }) ≡ with_deed (reply_deed (done_with (cond bmc (Marked id) (SoftwareMarked id)))) v
+marks v true id number is same = ap (λ n. replied (0x00 ∷ []) (record v { now = record v.now { mark = n } })) (sym same)
+marks v false id number is same = absurd (cc is)
 
-pub command_shows : (c : Controller) (config : Config) (kept_lan : Lan) (octets : List ℕ) (asked : Asked)
-    → octets ≡ (answer (tables c.config) (kept c.lan) asked).octets
-    → tables config ≡ pef_with (answer (tables c.config) (kept c.lan) asked).effect (tables c.config)
-    → kept kept_lan ≡ lan_with (answer (tables c.config) (kept c.lan) asked).effect (kept c.lan)
-    → shown (record c { config = config; lan = kept_lan; note = Nothing; reply = Some octets }) ≡ replied c asked
-command_shows c config kept_lan octets asked octets_are pef_is lan_is =
-    ap (λ x. record (shown c) { pef = x; lan = kept kept_lan; note = Nothing; reply = Some octets }) pef_is
-    ∙ ap (λ x. record (replied c asked) { lan = x; reply = Some octets }) lan_is
-    ∙ ap (λ x. record (replied c asked) { reply = Some x }) octets_are
+pub marks_software : (v : Values) (bmc : Bool) (id : ℕ) → bmc ≡ false
+    → replied (0x00 ∷ []) (record v { software = id }) ≡ with_deed (reply_deed (done_with (cond bmc (Marked id) (SoftwareMarked id)))) v
+marks_software v true id is = absurd (cc is)
+marks_software v false id is = refl
 
--- What a command acknowledged counts for the job that runs.
-pub answered_shows : (c : Controller) (asked : Asked) (shown_then : Values) (ack : Option PetAck)
-    → ack ≡ acked_in (answer (tables c.config) (kept c.lan) asked).effect
-    → shown_then ≡ record (replied c asked) { now = moved_by (option_map Ack ack) (stamp_at c.ticks) (shown c).now }
-    → shown_then ≡ with_deed (item_deed (shown c) (Command asked)) (shown c)
-answered_shows c asked shown_then ack acks is = is ∙ ap (λ a. record (replied c asked) { now = moved_by (option_map Ack a) (stamp_at c.ticks) (shown c).now }) acks
+pub is_string : (string : Option ℕ) → is_no_string string ≡ false → IfSome string (λ n. n ≤ 8)
+is_string None is = tt
+is_string (Some n) is = by (leb n 8) refl is
+  where
+    by : (b : Bool) → leb n 8 ≡ b → not b ≡ false → n ≤ 8
+    by true small none = leb-true n 8 small
+    by false small none = absurd (cc none)
 
--- a controller for whose job something counts now
+-- a number that stands where a check lets it stand
+pub some_if : {A : Type 0} (b : Bool) (x y : A) → cond b (Some x) None ≡ Some y → (b ≡ true) × (x ≡ y)
+some_if true x y is = (refl, cc is)
+some_if false x y is = absurd (cc is)
+
+pub none_if : {A : Type 0} (b : Bool) (x : A) → cond b (Some x) None ≡ None → b ≡ false
+none_if true x is = absurd (cc is)
+none_if false x is = refl
+
+-- a controller for which something counts now
 abbrev pub with_count : Counts → Controller → Values
 with_count counts c = record (shown c) { now = counted_now counts (stamp_at c.ticks) c.running (shown c).now }
 
@@ -119,6 +178,7 @@ abbrev pub at_now : Now → Values → Values
 at_now now v = record v { now = now }
 
 -- what begins is the same whatever ran before
-pub begins_alike : (work : Work) (stamp : ℕ) (turn : Option Turn) (before : Option Running) (n : Now) → begins work stamp turn (record n { running = before }) ≡ begins work stamp turn n
-begins_alike work stamp None before n = refl
-begins_alike work stamp (Some turn) before n = refl
+pub begins_alike : (work : Work) (stamp : ℕ) (turn : Option Turn) (last : Option Bool) (before : Option Running) (n : Now)
+    → begins work stamp turn last (record n { running = before }) ≡ begins work stamp turn last n
+begins_alike work stamp None last before n = refl
+begins_alike work stamp (Some turn) last before n = refl

@@ -23,11 +23,11 @@ use Rattle.pef_core.specs.declared.turn.Turn.{Turn}
 use Rattle.pef_core.specs.declared.turn.Turn.TheVariants.{ToAct, ToAlert, ToCall}
 use Rattle.pef_core.specs.declared.work.Work.{Work}
 use Rattle.pef_core.specs.Past.{WasTold}
-use Rattle.pef_core.specs.Course.{Force, is_enabled}
-use Rattle.pef_core.specs.Values.{Now, Values, stamp_at}
+use Rattle.pef_core.specs.Course.{Force, mark_behind}
+use Rattle.pef_core.specs.Values.{Now, Values, stamp_at, force_of}
 use Rattle.pef_core.specs.Undertaking.{one_set, set_at, stops_at, target_at, first_stage, turn_in, turn_at}
 use Rattle.pef_core.specs.Running.{Running, IsOpenPart, MayCount}
-use Rattle.pef_core.specs.After.{part_after, result_after, turn_from, turn_or_next, turn_behind, first_turn, part_begun, begins, progress, progress_by, now_with, counted_now, work_of, begin_with, begin_jobs_now, force_of, begun, with_deed, with_next_job}
+use Rattle.pef_core.specs.After.{part_after, result_after, turn_from, turn_or_next, turn_behind, first_turn, part_begun, begins, progress, progress_by, now_with, counted_now, work_of, begin_with, begin_jobs_now, begun, with_deed, may_begin_now, with_next_job}
 use Rattle.pef_core.proofs.TurnOrder.{starts}
 use Rattle.pef_core.specs.Histories.{is_due, trap_step, part_step, running_step}
 use Rattle.pef_core.specs.Left.{oem_left, part_left, turn_left, progress_left, now_left, left}
@@ -123,9 +123,10 @@ part_begun_left job sequence stamp (ToAlert first place) =
 abbrev left_at : Now → ℕ → ℕ
 left_at n records = now_left n.running n.mark records
 
-begins_left : (work : Work) (stamp : ℕ) (turn : Option Turn) (n : Now) (records : ℕ) → left_at (begins work stamp turn n) records ≡ turn_left work.job turn + 18 * (records - work.number)
-begins_left work stamp None n records = omega arith
-begins_left work stamp (Some turn) n records = ap (λ k. k + 18 * (records - work.number)) (part_begun_left work.job n.sequence stamp turn)
+begins_left : (work : Work) (stamp : ℕ) (turn : Option Turn) (last : Option Bool) (n : Now) (records : ℕ)
+    → left_at (begins work stamp turn last n) records ≡ turn_left work.job turn + 18 * (records - mark_behind work.number n.mark)
+begins_left work stamp None last n records = omega arith
+begins_left work stamp (Some turn) last n records = ap (λ k. k + 18 * (records - mark_behind work.number n.mark)) (part_begun_left work.job n.sequence stamp turn)
 
 counted_left : (told : Told) (stamp : ℕ) (r : Running) (n : Now) (records : ℕ) → IsOpenPart r.work.job.targets r.part → MayCount (Heard told) r.part
     → left_at (counted_now (Heard told) stamp (Some r) n) records < left_at (record n { running = Some r }) records
@@ -134,7 +135,7 @@ counted_left told stamp r n records is_open due = by (result_after (Heard told) 
     by : (o : Option Bool) → result_after (Heard told) r.work.job.event r.part ≡ o → left_at (now_with stamp (progress_by (Heard told) r o) n) records < left_at (record n { running = Some r }) records
     by None is = omega (arith, goes_on_with_less r.work.job r.part told due is)
     by (Some result) is =
-        omega (arith, begins_left r.work stamp (turn_behind r.work.job r.part result) n records, ends_with_less r.work.job r.part told result is_open due)
+        omega (arith, begins_left r.work stamp (turn_behind r.work.job r.part result) (Some result) n records, ends_with_less r.work.job r.part told result is_open due)
 
 -- the step that is due had an outcome
 pub outcome_leaves_fewer : (told : Told) (v : Values) (r : Running) → v.now.running ≡ Some r → IsOpenPart r.work.job.targets r.part → MayCount (Heard told) r.part → left (with_deed (WasTold told) v) < left v
@@ -169,9 +170,9 @@ module _ (f : Force) (stamp : ℕ) where
       work = work_of f (n.mark + 1) event
 
       by : ((n : Now) → n.running ≡ None → length events ≡ records - n.mark → left_at (begin_jobs_now f stamp events n) records ≤ 18 * length events)
-          → (o : Option Turn) → first_turn work.job ≡ o → left_at (begin_with (begin_jobs_now f stamp events) work stamp o n) records ≤ 18 * length (event ∷ events)
-      by others None first = omega (arith, others (record n { mark = work.number }) idle (omega (arith, is)))
-      by others (Some turn) first = omega (arith, begins_left work stamp (Some turn) n records, work_is_small (n.mark + 1) event (Some turn) first, is)
+          → (o : Option Turn) → first_turn work.job ≡ o → left_at (begin_with (begin_jobs_now f stamp events) (n.mark + 1) work stamp o n) records ≤ 18 * length (event ∷ events)
+      by others None first = omega (arith, others (record n { mark = n.mark + 1 }) idle (omega (arith, is)))
+      by others (Some turn) first = omega (arith, begins_left work stamp (Some turn) None n records, work_is_small (n.mark + 1) event (Some turn) first, is)
 
 none_is : (o : Option Running) → is_some o ≡ false → o ≡ None
 none_is None is = refl
@@ -183,12 +184,12 @@ not_true false is = refl
 
 -- a job that begins takes no more steps than were left
 pub begins_within : (v : Values) → left (with_next_job v) ≤ left v
-begins_within v = by (not (is_some v.now.running) && is_enabled v.pef) refl
+begins_within v = by (not (is_some v.now.running) && may_begin_now v) refl
   where
-    by : (b : Bool) → (not (is_some v.now.running) && is_enabled v.pef) ≡ b → left (cond b (begun v) v) ≤ left v
+    by : (b : Bool) → (not (is_some v.now.running) && may_begin_now v) ≡ b → left (cond b (begun v) v) ≤ left v
     by false is = omega arith
     by true is =
-        let idle : v.now.running ≡ None = none_is v.now.running (not_true (is_some v.now.running) (and_parts (not (is_some v.now.running)) (is_enabled v.pef) is).0) in
+        let idle : v.now.running ≡ None = none_is v.now.running (not_true (is_some v.now.running) (and_parts (not (is_some v.now.running)) (may_begin_now v) is).0) in
         let small = begun_is_small (force_of v) (stamp_at v.ticks) (drop v.now.mark v.records) v.now (length v.records) idle (length-drop v.now.mark v.records) in
         let free : left v ≡ 18 * (length v.records - v.now.mark) = ap (λ o. now_left o v.now.mark (length v.records)) idle in
         omega (arith, small, free, length-drop v.now.mark v.records)

@@ -6,6 +6,7 @@ pub mod Deeds
 pub mod Beginning
 pub mod Saying
 pub mod LineWords
+pub mod Fitting
 pub mod Promises
 pub mod Retries
 pub mod Bound

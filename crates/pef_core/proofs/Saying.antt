@@ -11,33 +11,32 @@ use Rattle.pef_engine.specs.declared.entry.Entry.TheVariants.{Item as Taken}
 use Rattle.pef_core.specs.declared.item.Item.{Item}
 use Rattle.pef_core.specs.declared.item.Item.TheVariants.{Event, Command}
 use Rattle.pef_core.specs.declared.note.Note.{Note}
-use Rattle.pef_core.specs.Past.{note, reply}
-use Rattle.pef_core.specs.Course.{is_enabled}
+use Rattle.pef_core.specs.Past.{note, note_with, reply}
 use Rattle.pef_core.specs.Values.{Values}
 use Rattle.pef_core.specs.Deeds.{event_deed, item_deed, standing}
-use Rattle.pef_core.specs.After.{note_after, begun, with_deed, with_next_job}
+use Rattle.pef_core.specs.After.{begun, may_begin_now, with_deed, with_next_job}
 use Rattle.pef_core.specs.Report.{note_line, reply_line, item_line}
 use Rattle.pef_core.proofs.Standing.{standing_next}
 
-abbrev may_begin : Values → Bool
-may_begin v = not (is_some v.now.running) && is_enabled v.pef
+abbrev begins_now : Values → Bool
+begins_now v = not (is_some v.now.running) && may_begin_now v
 
 -- a job that begins leaves note and reply
 keeps_note : (v : Values) → (with_next_job v).note ≡ v.note
-keeps_note v = by (may_begin v)
+keeps_note v = by (begins_now v)
   where
     by : (b : Bool) → (cond b (begun v) v).note ≡ v.note
     by true = refl
     by false = refl
 
 keeps_reply : (v : Values) → (with_next_job v).reply ≡ v.reply
-keeps_reply v = by (may_begin v)
+keeps_reply v = by (begins_now v)
   where
     by : (b : Bool) → (cond b (begun v) v).reply ≡ v.reply
     by true = refl
     by false = refl
 
-event_notes : (bad : Option RecordFault) (full : Option LogFault) (event : List ℕ) (before : Note) → note_after (event_deed bad full event) before ≡ note (event_deed bad full event ∷ [])
+event_notes : (bad : Option RecordFault) (full : Option LogFault) (event : List ℕ) (before : Note) → note_with (event_deed bad full event) before ≡ note (event_deed bad full event ∷ [])
 event_notes (Some fault) full event before = refl
 event_notes None (Some fault) event before = refl
 event_notes None None event before = refl

@@ -6,6 +6,12 @@ use Rattle.std.proofs.lemmas.Bool.{eqb-false}
 use Rattle.alert_trap.specs.Acknowledgement.{ack_awaited}
 use Rattle.lan_dest.specs.Attempts.{verdict}
 use Rattle.lan_dest.specs.declared.destination.Destination.{Destination}
+use Rattle.lan_dest.specs.Parameters as lan
+use Rattle.pef_config.proofs.Powered.{value_powered}
+use Rattle.pef_config.specs.Places.{Write, our_sizes, value, last_or, written}
+use Rattle.pef_match.specs.AtOnce.{at_once}
+use Rattle.pef_match.specs.declared.target.Target.{Target}
+use Rattle.pef_core.specs.Settings.{initial_of}
 use Rattle.pet_body.specs.declared.ack.PetAck.{PetAck}
 use Rattle.pef_engine.specs.declared.entry.Entry.{Entry}
 use Rattle.pef_core.specs.declared.counts.Counts.{Counts}
@@ -13,81 +19,102 @@ use Rattle.pef_core.specs.declared.counts.Counts.TheVariants.{Second, Ack, Heard
 use Rattle.pef_core.specs.declared.item.Item.{Item}
 use Rattle.pef_core.specs.declared.part.Alerting.{Alerting as Alert}
 use Rattle.pef_core.specs.declared.part.Part.TheVariants.{Alerting}
+use Rattle.pef_core.specs.declared.postpone.Postpone.{Postpone}
+use Rattle.pef_core.specs.declared.postpone.Postpone.TheVariants.{Disabled, Seconds}
 use Rattle.pef_core.specs.declared.turn.Turn.{Turn}
 use Rattle.pef_core.specs.declared.turn.Turn.TheVariants.{ToAct, ToAlert, ToCall}
 use Rattle.pef_core.specs.declared.work.Work.{Work}
 use Rattle.pef_core.specs.Counting.{same_ack, one_acks, counted as counted_alert, all_seconds}
-use Rattle.pef_core.specs.Past.{Unchanged, SetPef, SetLan, Acked, Deed, Logged, Dropped, Replied, Passed, Ticked, WasTold, log, pef, lan_tables, ticks, counts_of, note, reply}
-use Rattle.pef_core.specs.Undertaking.{Undertaking, Stage, Cut, first_stage, is_running, turn_at, stage_after, sequence_behind, alert_at, target_at, result_of, one_if_alert, ended_or, joined, cut_of, turn_of, alerts_open, drawn_with}
+use Rattle.pef_core.specs.Past.{Effect, Unchanged, SetPef, SetLan, Acked, Armed, Marked, SoftwareMarked, Cleared, Sends, StatusCleared, Deed, Logged, Dropped, Replied, Passed, Ticked, Powered, WasTold, effect_of, log, pef, pef_written, pef_writes, lan_written, lan_writes, lan_tables, ticks, delay_by, delay_set, seconds_on, delay, armed_in, set_or, timer_set, seconds_armed, less_by, postpone, counts_of}
+use Rattle.pef_core.specs.Undertaking.{Undertaking, Stage, InSet, Cut, first_stage, is_running, turn_in, turn_at, stage_after, sequence_behind, alert_at, target_at, result_of, one_if_alert, ended_or, joined, cut_of, turn_of, alerts_open, drawn_with}
 use Rattle.pef_core.specs.Running.{Running}
-use Rattle.pef_core.specs.Course.{Course, Force, drawn_by, begun as begun_for, is_busy, counted_by, counted, moved, is_enabled, begin_jobs, next_job, course}
-use Rattle.pef_core.specs.Values.{Now, Values, stamp_at, alert_in, part_in, work_in, running_at, running, now_of, values}
+use Rattle.pef_core.specs.Course.{Course, Force, drawn_by, begun as begun_for, begun_at_once, is_busy, mark_behind, status_behind, gone_on, counted_by, counted, with_effect, moved, begin_jobs, next_job, course}
+use Rattle.pef_core.specs.Values.{Now, Values, stamp_at, alert_in, part_in, work_in, running_at, running, now_of, values, force_of}
 use Rattle.pef_core.specs.Deeds.{deed, past_behind, past_of, standing}
-use Rattle.pef_core.specs.After.{effect_of, pef_with, lan_with, records_after, ticks_after, note_after, reply_after, attempt_after, part_after, result_after, turn_behind, first_turn, part_begun, following, sequence_after, begins, progress_by, now_with, counted_now, moved_by, work_of, begin_with, begin_jobs_now, force_of, begun, with_deed, with_next_job, values_after}
-use Rattle.pef_core.proofs.TurnOrder.{turn_continues}
+use Rattle.pef_core.specs.After.{pef_behind, lan_behind, pef_after, lan_after, ticks_after, delay_after, postpone_after, attempt_after, part_after, result_after, turn_behind, first_turn, part_begun, following, sequence_after, begins, progress_by, now_with, counted_now, moved_by, now_with_effect, work_of, begin_with, begin_jobs_now, begun, with_deed, may_begin_now, with_next_job, values_after}
+use Rattle.pef_core.proofs.TurnOrder.{set_begins, turn_continues}
 
 past_behind-append : (Z : List ℕ) (past : List Deed) (H : List (Entry Item)) (entry : Entry Item)
     → past_behind Z past (H ++ entry ∷ []) ≡ deed (values Z (past_behind Z past H)) entry ∷ past_behind Z past H
 past_behind-append Z past [] entry = refl
 past_behind-append Z past (first ∷ H) entry = past_behind-append Z (deed (values Z past) first ∷ past) H entry
 
-pef_next : (Z : List ℕ) (d : Deed) (past : List Deed) → pef Z (d ∷ past) ≡ pef_with (effect_of d) (pef Z past)
+-- what stands behind writes
+value_behind : (Z : List ℕ) (writes earlier : List Write) → value our_sizes (initial_of Z) (writes ++ earlier) ≡ pef_behind writes (value our_sizes (initial_of Z) earlier)
+value_behind Z [] earlier = refl
+value_behind Z (write ∷ writes) earlier = ap (λ t. λ place. last_or (t place) (written write place)) (value_behind Z writes earlier)
+
+lan_value_behind : (writes earlier : List lan.Write) → lan.value (writes ++ earlier) ≡ lan_behind writes (lan.value earlier)
+lan_value_behind [] earlier = refl
+lan_value_behind (write ∷ writes) earlier = ap (lan.written write) (lan_value_behind writes earlier)
+
+pef_next : (Z : List ℕ) (d : Deed) (past : List Deed) → pef Z (d ∷ past) ≡ pef_after d (pef Z past)
+pef_next Z Powered past = value_powered (initial_of Z) (pef_writes past)
+pef_next Z (Replied octets effect) past = value_behind Z (pef_written effect) (pef_writes past)
 pef_next Z (Logged event) past = refl
 pef_next Z (Dropped why) past = refl
-pef_next Z (Replied octets Unchanged) past = refl
-pef_next Z (Replied octets (SetPef write)) past = fun_ext (λ place. refl)
-pef_next Z (Replied octets (SetLan write)) past = refl
-pef_next Z (Replied octets (Acked ack)) past = refl
 pef_next Z Passed past = refl
 pef_next Z Ticked past = refl
 pef_next Z (WasTold told) past = refl
 
-lan_next : (d : Deed) (past : List Deed) → lan_tables (d ∷ past) ≡ lan_with (effect_of d) (lan_tables past)
+lan_next : (d : Deed) (past : List Deed) → lan_tables (d ∷ past) ≡ lan_after d (lan_tables past)
+lan_next (Replied octets effect) past = lan_value_behind (lan_written effect) (lan_writes past)
+lan_next Powered past = refl
 lan_next (Logged event) past = refl
 lan_next (Dropped why) past = refl
-lan_next (Replied octets Unchanged) past = refl
-lan_next (Replied octets (SetPef write)) past = refl
-lan_next (Replied octets (SetLan write)) past = refl
-lan_next (Replied octets (Acked ack)) past = refl
 lan_next Passed past = refl
 lan_next Ticked past = refl
 lan_next (WasTold told) past = refl
-
-log_next : (d : Deed) (past : List Deed) → log (d ∷ past) ≡ records_after d (log past)
-log_next (Logged event) past = refl
-log_next (Dropped why) past = refl
-log_next (Replied octets effect) past = refl
-log_next Passed past = refl
-log_next Ticked past = refl
-log_next (WasTold told) past = refl
-
-note_next : (d : Deed) (past : List Deed) → note (d ∷ past) ≡ note_after d (note past)
-note_next (Logged event) past = refl
-note_next (Dropped why) past = refl
-note_next (Replied octets effect) past = refl
-note_next Passed past = refl
-note_next Ticked past = refl
-note_next (WasTold told) past = refl
-
-reply_next : (d : Deed) (past : List Deed) → reply (d ∷ past) ≡ reply_after d (reply past)
-reply_next (Logged event) past = refl
-reply_next (Dropped why) past = refl
-reply_next (Replied octets effect) past = refl
-reply_next Passed past = refl
-reply_next Ticked past = refl
-reply_next (WasTold told) past = refl
 
 -- the seconds, modulo 2 to the power of 32
 one_more : (t : ℕ) → (t + 1) % 4294967296 ≡ (t % 4294967296 + 1) % 4294967296
 one_more t = omega arith
 
 ticks_next : (d : Deed) (past : List Deed) → ticks (d ∷ past) % 4294967296 ≡ ticks_after d (ticks past % 4294967296)
+ticks_next Ticked past = one_more (ticks past)
 ticks_next (Logged event) past = refl
 ticks_next (Dropped why) past = refl
 ticks_next (Replied octets effect) past = refl
 ticks_next Passed past = refl
-ticks_next Ticked past = one_more (ticks past)
+ticks_next Powered past = refl
 ticks_next (WasTold told) past = refl
+
+-- one second less is left
+one_off : (set since : ℕ) → set - (since + 1) ≡ set - since - 1
+one_off set since = omega arith
+
+none_off : (n : ℕ) → n - 0 ≡ n
+none_off n = omega arith
+
+delay_next : (Z : List ℕ) (d : Deed) (past : List Deed) → delay Z (d ∷ past) ≡ delay_after d (pef_after d (pef Z past)) (delay Z past)
+delay_next Z Ticked past = one_off (delay_set Z past) (seconds_on past)
+delay_next Z Powered past = none_off (delay_by (pef Z (Powered ∷ past))) ∙ ap delay_by (pef_next Z Powered past)
+delay_next Z (Logged event) past = refl
+delay_next Z (Dropped why) past = refl
+delay_next Z (Replied octets effect) past = refl
+delay_next Z Passed past = refl
+delay_next Z (WasTold told) past = refl
+
+less_by_none : (timer : Postpone) → less_by 0 timer ≡ timer
+less_by_none Disabled = refl
+less_by_none (Seconds left) = ap Seconds (none_off left)
+
+less_by_one : (since : ℕ) (timer : Postpone) → less_by (since + 1) timer ≡ less_by 1 (less_by since timer)
+less_by_one since Disabled = refl
+less_by_one since (Seconds left) = ap Seconds (one_off left since)
+
+postpone_next : (d : Deed) (past : List Deed) → postpone (d ∷ past) ≡ postpone_after d (postpone past)
+postpone_next Ticked past = less_by_one (seconds_armed past) (timer_set past)
+postpone_next Powered past = refl
+postpone_next (Replied octets effect) past = by (armed_in effect)
+  where
+    by : (o : Option Postpone) → less_by (cond (is_some o) 0 (seconds_armed past)) (set_or (timer_set past) o) ≡ set_or (postpone past) o
+    by None = refl
+    by (Some timer) = less_by_none timer
+postpone_next (Logged event) past = refl
+postpone_next (Dropped why) past = refl
+postpone_next Passed past = refl
+postpone_next (WasTold told) past = refl
 
 stamp_is : (t : ℕ) → stamp_at t ≡ stamp_at (t % 4294967296)
 stamp_is t = omega arith
@@ -126,9 +153,6 @@ seconds_grow now Second since = one_each now (all_seconds since)
 seconds_grow now (Ack ack) since = refl
 seconds_grow now (Heard told) since = refl
 
-none_off : (n : ℕ) → n - 0 ≡ n
-none_off n = omega arith
-
 add_assoc : (a b c : ℕ) → a + (b + c) ≡ a + b + c
 add_assoc a b c = omega arith
 
@@ -144,11 +168,13 @@ module _ (u : Undertaking) where
   runs_at now c None = None
   runs_at now c (Some turn) = Some (record { work = work; part = part_in now u c turn })
 
-  abbrev stands_at : ℕ → Cut → Option Turn → ℕ → Now
-  stands_at now c turn mark = record {
+  -- with the mark and the status before
+  abbrev stands_at : ℕ → Cut → Option Turn → ℕ → ℕ → Now
+  stands_at now c turn mark status = record {
     running = runs_at now c turn;
-    mark = cond (is_some turn) mark u.number;
+    mark = cond (is_some turn) mark (mark_behind u.number mark);
     sequence = sequence_behind (u.drawn + c.alerts + alerts_open turn);
+    status = cond (is_some turn) status (status_behind u.number c.last status);
   }
 
   abbrev with_more : Counts → Cut → Cut
@@ -156,8 +182,8 @@ module _ (u : Undertaking) where
 
   alert_more : (counts : Counts) (c : Cut) (first place : ℕ)
       → alert_at u.job (sequence_behind (u.drawn + c.alerts)) first place (counts ∷ c.since)
-      ≡ attempt_after counts (ack_awaited (sequence_behind (u.drawn + c.alerts)) (Some u.job.event)) (alert_at u.job (sequence_behind (u.drawn + c.alerts)) first place c.since)
-  alert_more counts c first place = counts_more (target_at u.job.targets first place).to (ack_awaited (sequence_behind (u.drawn + c.alerts)) (Some u.job.event)) counts c.since
+      ≡ attempt_after counts (ack_awaited (sequence_behind (u.drawn + c.alerts)) u.job.event) (alert_at u.job (sequence_behind (u.drawn + c.alerts)) first place c.since)
+  alert_more counts c first place = counts_more (target_at u.job.targets first place).to (ack_awaited (sequence_behind (u.drawn + c.alerts)) u.job.event) counts c.since
 
   -- the part that is open
   part_next : (now : ℕ) (counts : Counts) (c : Cut) (turn : Turn) → part_in (now_after counts now) u (with_more counts c) turn ≡ part_after counts u.job.event (part_in now u c turn)
@@ -178,12 +204,15 @@ module _ (u : Undertaking) where
   result_next now counts c (ToAlert first place) = ap verdict (alert_more counts c first place)
 
   -- a part that begins
-  part_begins : (now alerts : ℕ) (stage : Stage) (turn : Turn)
-      → part_in now u (record { stage = stage; alerts = alerts; since = [] }) turn ≡ part_begun u.job (sequence_behind (u.drawn + alerts)) (stamp_at now) turn
-  part_begins now alerts stage (ToAct act) = refl
-  part_begins now alerts stage ToCall = refl
-  part_begins now alerts stage (ToAlert first place) =
-      ap (λ t. Alerting (record (alert_in now u (record { stage = stage; alerts = alerts; since = [] }) first place) { stamp = stamp_at t })) (none_off now)
+  abbrev fresh : Stage → ℕ → Option Bool → Cut
+  fresh stage alerts last = record { stage = stage; alerts = alerts; last = last; since = [] }
+
+  part_begins : (now alerts : ℕ) (stage : Stage) (last : Option Bool) (turn : Turn)
+      → part_in now u (fresh stage alerts last) turn ≡ part_begun u.job (sequence_behind (u.drawn + alerts)) (stamp_at now) turn
+  part_begins now alerts stage last (ToAct act) = refl
+  part_begins now alerts stage last ToCall = refl
+  part_begins now alerts stage last (ToAlert first place) =
+      ap (λ t. Alerting (record (alert_in now u (fresh stage alerts last) first place) { stamp = stamp_at t })) (none_off now)
 
   sequence_next : (k : ℕ) (turn : Turn) → sequence_behind (k + one_if_alert turn) ≡ sequence_after turn (sequence_behind k)
   sequence_next k (ToAct act) = ap sequence_behind (none_on k)
@@ -191,13 +220,14 @@ module _ (u : Undertaking) where
   sequence_next k (ToAlert first place) = sequence_follows k
 
   -- where a part begins, or none
-  begins_here : (now alerts : ℕ) (stage : Stage) (turn : Option Turn) (mark : ℕ) (before : Option Running)
-      → stands_at now (record { stage = stage; alerts = alerts; since = [] }) turn mark
-      ≡ begins work (stamp_at now) turn (record { running = before; mark = mark; sequence = sequence_behind (u.drawn + alerts) })
-  begins_here now alerts stage None mark before = ap (λ k. record { running = None; mark = u.number; sequence = sequence_behind k }) (none_on (u.drawn + alerts))
-  begins_here now alerts stage (Some turn) mark before =
-      ap (λ p. record { running = Some (record { work = work; part = p }); mark = mark; sequence = sequence_behind (u.drawn + alerts + one_if_alert turn) }) (part_begins now alerts stage turn)
-      ∙ ap (λ k. record { running = Some (record { work = work; part = part_begun u.job (sequence_behind (u.drawn + alerts)) (stamp_at now) turn }); mark = mark; sequence = k }) (sequence_next (u.drawn + alerts) turn)
+  begins_here : (now alerts : ℕ) (stage : Stage) (last : Option Bool) (turn : Option Turn) (mark status : ℕ) (before : Option Running)
+      → stands_at now (fresh stage alerts last) turn mark status
+      ≡ begins work (stamp_at now) turn last (record { running = before; mark = mark; sequence = sequence_behind (u.drawn + alerts); status = status })
+  begins_here now alerts stage last None mark status before =
+      ap (λ k. record { running = None; mark = mark_behind u.number mark; sequence = sequence_behind k; status = status_behind u.number last status }) (none_on (u.drawn + alerts))
+  begins_here now alerts stage last (Some turn) mark status before =
+      ap (λ p. record { running = Some (record { work = work; part = p }); mark = mark; sequence = sequence_behind (u.drawn + alerts + one_if_alert turn); status = status }) (part_begins now alerts stage last turn)
+      ∙ ap (λ k. record { running = Some (record { work = work; part = part_begun u.job (sequence_behind (u.drawn + alerts)) (stamp_at now) turn }); mark = mark; sequence = k; status = status }) (sequence_next (u.drawn + alerts) turn)
 
   -- the turn behind a part
   turn_next : (now : ℕ) (c : Cut) (turn : Turn) (result : Bool) → turn_at u.job c.stage ≡ Some turn
@@ -207,24 +237,24 @@ module _ (u : Undertaking) where
   turn_next now c ToCall result is = turn_continues u.job result c.stage ToCall is
 
   -- What counts joins the open part.
-  module _ (now : ℕ) (counts : Counts) (c : Cut) (turn : Turn) (is : turn_at u.job c.stage ≡ Some turn) (mark : ℕ) where
+  module _ (now : ℕ) (counts : Counts) (c : Cut) (turn : Turn) (is : turn_at u.job c.stage ≡ Some turn) (mark status : ℕ) where
     abbrev then_stands : Cut → Now
-    then_stands x = stands_at (now_after counts now) x (turn_at u.job x.stage) mark
+    then_stands x = stands_at (now_after counts now) x (turn_at u.job x.stage) mark status
 
     abbrev stood : Now
-    stood = stands_at now c (Some turn) mark
+    stood = stands_at now c (Some turn) mark status
 
     abbrev runs : Running
     runs = record { work = work; part = part_in now u c turn }
 
     with_result : (r : Option Bool) → then_stands (ended_or u.job turn r (counts ∷ c.since) c) ≡ now_with (stamp_at (now_after counts now)) (progress_by counts runs r) stood
     with_result None =
-        ap (λ o. stands_at (now_after counts now) (with_more counts c) o mark) is
+        ap (λ o. stands_at (now_after counts now) (with_more counts c) o mark status) is
         ∙ ap (λ p. record stood { running = Some (record { work = work; part = p }) }) (part_next now counts c turn)
     with_result (Some result) =
-        ap (λ o. stands_at (now_after counts now) (record { stage = stage_after u.job turn result c.stage; alerts = c.alerts + one_if_alert turn; since = [] }) o mark) (turn_next now c turn result is)
-        ∙ begins_here (now_after counts now) (c.alerts + one_if_alert turn) (stage_after u.job turn result c.stage) (turn_behind u.job (part_in now u c turn) result) mark (Some runs)
-        ∙ ap (λ k. begins work (stamp_at (now_after counts now)) (turn_behind u.job (part_in now u c turn) result) (record stood { sequence = sequence_behind k })) (add_assoc u.drawn c.alerts (one_if_alert turn))
+        ap (λ o. stands_at (now_after counts now) (fresh (stage_after u.job turn result c.stage) (c.alerts + one_if_alert turn) (Some result)) o mark status) (turn_next now c turn result is)
+        ∙ begins_here (now_after counts now) (c.alerts + one_if_alert turn) (stage_after u.job turn result c.stage) (Some result) (turn_behind u.job (part_in now u c turn) result) mark status (Some runs)
+        ∙ ap (λ k. begins work (stamp_at (now_after counts now)) (turn_behind u.job (part_in now u c turn) result) (Some result) (record stood { sequence = sequence_behind k })) (add_assoc u.drawn c.alerts (one_if_alert turn))
 
     joins : then_stands (joined u counts c (Some turn)) ≡ counted_now counts (stamp_at (now_after counts now)) (Some runs) stood
     joins =
@@ -236,44 +266,82 @@ same_running : (now : ℕ) (u : Undertaking) (o : Option Turn) → running_at no
 same_running now u None = refl
 same_running now u (Some turn) = refl
 
-latest_is : (now : ℕ) (u : Undertaking) (us : List Undertaking) (mark : ℕ)
-    → record { running = running now (u ∷ us); mark = cond (is_running u) mark u.number; sequence = sequence_behind (drawn_with u) }
-    ≡ stands_at u now (cut_of u) (turn_of u) mark
-latest_is now u us mark = ap (λ r. record { running = r; mark = cond (is_running u) mark u.number; sequence = sequence_behind (drawn_with u) }) (same_running now u (turn_of u))
+latest_is : (now : ℕ) (u : Undertaking) (us : List Undertaking) (c : Course) → now_of now (gone_on u us c) ≡ stands_at u now (cut_of u) (turn_of u) c.mark c.status
+latest_is now u us c =
+    ap (λ r. record {
+      running = r;
+      mark = cond (is_running u) c.mark (mark_behind u.number c.mark);
+      sequence = sequence_behind (drawn_with u);
+      status = cond (is_running u) c.status (status_behind u.number (cut_of u).last c.status);
+    }) (same_running now u (turn_of u))
 
-latest_counts : (now : ℕ) (counts : Counts) (u : Undertaking) (us : List Undertaking) (mark : ℕ) (o : Option Turn) → turn_of u ≡ o
-    → now_of (now_after counts now) (counted_by (is_some o) counts u us mark)
-    ≡ counted_now counts (stamp_at (now_after counts now)) (running_at now u o) (record { running = running_at now u o; mark = mark; sequence = sequence_behind (u.drawn + (cut_of u).alerts + alerts_open o) })
-latest_counts now counts u us mark None is =
-    ap (λ o. record { running = running_at (now_after counts now) u o; mark = mark; sequence = sequence_behind (u.drawn + (cut_of u).alerts + alerts_open o) }) is
-latest_counts now counts u us mark (Some turn) is =
-    latest_is (now_after counts now) (record u { since = counts ∷ u.since }) us mark
-    ∙ ap (λ o. then_stands u now counts (cut_of u) turn is mark (joined u counts (cut_of u) o)) is
-    ∙ joins u now counts (cut_of u) turn is mark
+latest_counts : (now : ℕ) (counts : Counts) (u : Undertaking) (us : List Undertaking) (c : Course) (o : Option Turn) → turn_of u ≡ o
+    → now_of (now_after counts now) (counted_by (is_some o) counts u us c)
+    ≡ counted_now counts (stamp_at (now_after counts now)) (running_at now u o) (record { running = running_at now u o; mark = c.mark; sequence = sequence_behind (u.drawn + (cut_of u).alerts + alerts_open o); status = c.status })
+latest_counts now counts u us c None is =
+    ap (λ o. record { running = running_at (now_after counts now) u o; mark = c.mark; sequence = sequence_behind (u.drawn + (cut_of u).alerts + alerts_open o); status = c.status }) is
+latest_counts now counts u us c (Some turn) is =
+    latest_is (now_after counts now) (record u { since = counts ∷ u.since }) us c
+    ∙ ap (λ o. then_stands u now counts (cut_of u) turn is c.mark c.status (joined u counts (cut_of u) o)) is
+    ∙ joins u now counts (cut_of u) turn is c.mark c.status
 
-counts_now : (now : ℕ) (counts : Counts) (us : List Undertaking) (mark : ℕ)
-    → now_of (now_after counts now) (counted counts us mark) ≡ counted_now counts (stamp_at (now_after counts now)) (running now us) (now_of now (record { undertakings = us; mark = mark }))
-counts_now now counts [] mark = refl
-counts_now now counts (u ∷ us) mark = latest_counts now counts u us mark (turn_of u) refl
+counts_now : (now : ℕ) (counts : Counts) (us : List Undertaking) (c : Course) → c.undertakings ≡ us
+    → now_of (now_after counts now) (counted counts us c) ≡ counted_now counts (stamp_at (now_after counts now)) (running now us) (now_of now (record c { undertakings = us }))
+counts_now now counts [] c is = refl
+counts_now now counts (u ∷ us) c is = latest_counts now counts u us c (turn_of u) refl
+
+-- what a command does to the course
+pub target_turn : (target : Target) (guid : List ℕ) (drawn : ℕ) → turn_of (begun_at_once target guid drawn) ≡ Some (ToAlert 0 0)
+target_turn target guid drawn = ap (turn_in (at_once target) 0) (set_begins (target ∷ []) 0 (omega arith))
+
+effect_now : (now : ℕ) (effect : Effect) (records : List (List ℕ)) (c : Course)
+    → now_of now (with_effect effect records c) ≡ now_with_effect effect (stamp_at now) records (now_of now c)
+effect_now now Unchanged records c = refl
+effect_now now (SetPef write) records c = refl
+effect_now now (SetLan write) records c = refl
+effect_now now (Acked ack) records c = refl
+effect_now now (Armed timer) records c = refl
+effect_now now (Marked id) records c = refl
+effect_now now (SoftwareMarked id) records c = refl
+effect_now now Cleared records c = refl
+effect_now now StatusCleared records c = refl
+effect_now now (Sends target guid) records c =
+    let u = begun_at_once target guid (drawn_by c.undertakings) in
+    ap (λ o. record { running = running_at now u o; mark = c.mark; sequence = sequence_behind (u.drawn + 0 + alerts_open o); status = 0xFF }) (target_turn target guid u.drawn)
+    ∙ begins_here u now 0 (InSet 0 []) None (Some (ToAlert 0 0)) c.mark 0xFF (running now c.undertakings)
+    ∙ ap (λ k. begins (work_in u) (stamp_at now) (Some (ToAlert 0 0)) None (record (now_of now c) { sequence = sequence_behind k; status = 0xFF })) (none_on u.drawn)
 
 -- what a deed counts for, and the seconds behind it
 module _ (past : List Deed) (c : Course) where
   abbrev t : ℕ
   t = ticks past
 
-  now_next : (d : Deed) → now_of (ticks (d ∷ past)) (moved d c) ≡ moved_by (counts_of d) (stamp_at (ticks (d ∷ past))) (now_of t c)
+  abbrev moved_now : Deed → Now
+  moved_now d = moved_by (counts_of d) (stamp_at (ticks (d ∷ past))) (now_with_effect (effect_of d) (stamp_at t) (log past) (now_of t c))
+
+  now_next : (d : Deed) → now_of (ticks (d ∷ past)) (moved d (log past) c) ≡ moved_now d
   now_next (Logged event) = refl
   now_next (Dropped why) = refl
-  now_next (Replied octets Unchanged) = refl
-  now_next (Replied octets (SetPef write)) = refl
-  now_next (Replied octets (SetLan write)) = refl
-  now_next (Replied octets (Acked ack)) = counts_now t (Ack ack) c.undertakings c.mark
+  now_next (Replied octets effect) = by effect
+    where
+      by : (effect : Effect) → now_of t (moved (Replied octets effect) (log past) c) ≡ moved_now (Replied octets effect)
+      by (Acked ack) = counts_now t (Ack ack) c.undertakings c refl
+      by Unchanged = refl
+      by (SetPef write) = refl
+      by (SetLan write) = refl
+      by (Armed timer) = refl
+      by (Marked id) = refl
+      by (SoftwareMarked id) = refl
+      by Cleared = refl
+      by (Sends target guid) = effect_now t (Sends target guid) (log past) c
+      by StatusCleared = refl
   now_next Passed = refl
-  now_next Ticked = counts_now t Second c.undertakings c.mark
-  now_next (WasTold told) = counts_now t (Heard told) c.undertakings c.mark
+  now_next Powered = refl
+  now_next Ticked = counts_now t Second c.undertakings c refl
+  now_next (WasTold told) = counts_now t (Heard told) c.undertakings c refl
 
 -- whether anything runs
-busy_is : (now : ℕ) (us : List Undertaking) → is_busy us ≡ is_some (running now us)
+pub busy_is : (now : ℕ) (us : List Undertaking) → is_busy us ≡ is_some (running now us)
 busy_is now [] = refl
 busy_is now (u ∷ us) = by (turn_of u)
   where
@@ -299,7 +367,7 @@ begins_now now f (event ∷ events) c idle = by (λ c idle. begins_now now f eve
     u = begun_for f (c.mark + 1) event (drawn_by c.undertakings)
 
     later : Course
-    later = record { undertakings = u ∷ c.undertakings; mark = c.mark + 1 }
+    later = record c { undertakings = u ∷ c.undertakings; mark = c.mark + 1 }
 
     w : Work
     w = work_of f (c.mark + 1) event
@@ -313,23 +381,23 @@ begins_now now f (event ∷ events) c idle = by (λ c idle. begins_now now f eve
     by : ((c : Course) → is_busy c.undertakings ≡ false → now_of now (begin_jobs f events c) ≡ begin_jobs_now f (stamp_at now) events (now_of now c))
         → (o : Option Turn) → first_turn u.job ≡ o
         → now_of now (cond (is_some o) (record c { undertakings = u ∷ c.undertakings }) (begin_jobs f events later))
-        ≡ begin_with (begin_jobs_now f (stamp_at now) events) w (stamp_at now) o (now_of now c)
+        ≡ begin_with (begin_jobs_now f (stamp_at now) events) (c.mark + 1) w (stamp_at now) o (now_of now c)
     by others None is = others later (ap is_some is) ∙ ap (begin_jobs_now f (stamp_at now) events) (
-        ap (λ o. record { running = running_at now u o; mark = c.mark + 1; sequence = sequence_behind (drawn_by c.undertakings + 0 + alerts_open o) }) is
-        ∙ ap (λ k. record { running = None; mark = c.mark + 1; sequence = sequence_behind k }) (none_on (drawn_by c.undertakings + 0) ∙ drawn_is)
-        ∙ ap (λ r. record { running = r; mark = c.mark + 1; sequence = sequence_behind (drawn_by c.undertakings) }) (sym none_before))
+        ap (λ o. record { running = running_at now u o; mark = c.mark + 1; sequence = sequence_behind (drawn_by c.undertakings + 0 + alerts_open o); status = c.status }) is
+        ∙ ap (λ k. record { running = None; mark = c.mark + 1; sequence = sequence_behind k; status = c.status }) (none_on (drawn_by c.undertakings + 0) ∙ drawn_is)
+        ∙ ap (λ r. record { running = r; mark = c.mark + 1; sequence = sequence_behind (drawn_by c.undertakings); status = c.status }) (sym none_before))
     by others (Some turn) is =
-        ap (λ o. record { running = running_at now u o; mark = c.mark; sequence = sequence_behind (drawn_by c.undertakings + 0 + alerts_open o) }) is
-        ∙ begins_here u now 0 (first_stage u.job.act) (Some turn) c.mark (running now c.undertakings)
-        ∙ ap (λ k. begins w (stamp_at now) (Some turn) (record (now_of now c) { sequence = sequence_behind k })) drawn_is
+        ap (λ o. record { running = running_at now u o; mark = c.mark; sequence = sequence_behind (drawn_by c.undertakings + 0 + alerts_open o); status = c.status }) is
+        ∙ begins_here u now 0 (first_stage u.job.act) None (Some turn) c.mark c.status (running now c.undertakings)
+        ∙ ap (λ k. begins w (stamp_at now) (Some turn) None (record (now_of now c) { sequence = sequence_behind k })) drawn_is
 
 abbrev with_now : Values → Now → Values
 with_now v now = record v { now = now }
 
 -- where a course stands, with the job that begins
 next_begins : (now : ℕ) (v : Values) (c : Course) → v.now ≡ now_of now c → stamp_at v.ticks ≡ stamp_at now
-    → with_now v (now_of now (next_job (force_of v) v.records c)) ≡ with_next_job v
-next_begins now v c is stamp = by (is_busy c.undertakings) refl (is_enabled v.pef) ∙ ap (λ b. cond (not b && is_enabled v.pef) (begun v) v) busy
+    → with_now v (now_of now (next_job (force_of v) (may_begin_now v) v.records c)) ≡ with_next_job v
+next_begins now v c is stamp = by (is_busy c.undertakings) refl (may_begin_now v) ∙ ap (λ b. cond (not b && may_begin_now v) (begun v) v) busy
   where
     busy : is_busy c.undertakings ≡ is_some v.now.running
     busy = busy_is now c.undertakings ∙ ap (λ n. is_some n.running) (sym is)
@@ -342,28 +410,31 @@ next_begins now v c is stamp = by (is_busy c.undertakings) refl (is_enabled v.pe
         ∙ ap (λ n. begin_jobs_now (force_of v) (stamp_at now) (drop n.mark v.records) n) (sym is)
         ∙ ap (λ s. begin_jobs_now (force_of v) s (drop v.now.mark v.records) v.now) (sym stamp))
 
-    by : (b : Bool) → is_busy c.undertakings ≡ b → (enabled : Bool)
-        → with_now v (now_of now (cond (not b && enabled) (begin_jobs (force_of v) (drop c.mark v.records) c) c)) ≡ cond (not b && enabled) (begun v) v
-    by true is_so enabled = same
+    by : (b : Bool) → is_busy c.undertakings ≡ b → (may : Bool)
+        → with_now v (now_of now (cond (not b && may) (begin_jobs (force_of v) (drop c.mark v.records) c) c)) ≡ cond (not b && may) (begun v) v
+    by true is_so may = same
     by false is_so true = all is_so
     by false is_so false = same
 
 values_next : (Z : List ℕ) (d : Deed) (past : List Deed) → values Z (d ∷ past) ≡ values_after d (values Z past)
-values_next Z d past = next_begins (ticks (d ∷ past)) moved_values (moved d (course Z past)) refl (sym (stamp_is (ticks (d ∷ past)))) ∙ ap with_next_job moved_is
+values_next Z d past = next_begins (ticks (d ∷ past)) moved_values (moved d (log past) (course Z past)) refl (sym (stamp_is (ticks (d ∷ past)))) ∙ ap with_next_job moved_is
   where
     moved_values : Values
-    moved_values = record (values Z (d ∷ past)) { now = now_of (ticks (d ∷ past)) (moved d (course Z past)) }
+    moved_values = record (values Z (d ∷ past)) { now = now_of (ticks (d ∷ past)) (moved d (log past) (course Z past)) }
 
-    moves : now_of (ticks (d ∷ past)) (moved d (course Z past)) ≡ moved_by (counts_of d) (stamp_at (ticks_after d (ticks past % 4294967296))) (now_of (ticks past) (course Z past))
-    moves = now_next past (course Z past) d ∙ ap (λ s. moved_by (counts_of d) s (now_of (ticks past) (course Z past))) (stamp_is (ticks (d ∷ past)) ∙ ap stamp_at (ticks_next d past))
+    moves : now_of (ticks (d ∷ past)) (moved d (log past) (course Z past))
+        ≡ moved_by (counts_of d) (stamp_at (ticks_after d (ticks past % 4294967296))) (now_with_effect (effect_of d) (stamp_at (ticks past % 4294967296)) (log past) (now_of (ticks past) (course Z past)))
+    moves =
+        now_next past (course Z past) d
+        ∙ ap (λ s. moved_by (counts_of d) s (now_with_effect (effect_of d) (stamp_at (ticks past)) (log past) (now_of (ticks past) (course Z past)))) (stamp_is (ticks (d ∷ past)) ∙ ap stamp_at (ticks_next d past))
+        ∙ ap (λ s. moved_by (counts_of d) (stamp_at (ticks_after d (ticks past % 4294967296))) (now_with_effect (effect_of d) s (log past) (now_of (ticks past) (course Z past)))) (stamp_is (ticks past))
 
     moved_is : moved_values ≡ with_deed d (values Z past)
     moved_is =
         let a = pef_next Z d past in
         let b = lan_next d past in
-        let c = log_next d past in
-        let e = note_next d past in
-        let f = reply_next d past in
+        let e = delay_next Z d past in
+        let f = postpone_next d past in
         let g = ticks_next d past in
         let h = moves in
         cc

@@ -14,7 +14,7 @@ use Rattle.pef_core.specs.declared.turn.Turn.TheVariants.{ToAct, ToAlert, ToCall
 use Rattle.pef_core.specs.Undertaking.{Stage, First, InSet, Finished, one_set, set_at, stops_at, turn_in, turn_at, behind_alert, stage_after}
 use Rattle.pef_core.specs.After.{turn_from, turn_or_next}
 
-eq_self : (n : ℕ) → eqb n n ≡ true
+pub eq_self : (n : ℕ) → eqb n n ≡ true
 eq_self n = by (eqb n n) refl
   where
     by : (b : Bool) → eqb n n ≡ b → b ≡ true

@@ -1,7 +1,6 @@
 -- What stands after one more deed, by what stood before it: the controller goes on by these. That they agree with the past is proved
 -- (`standing_next`).
-use Rattle.std.specs.Prelude.{ℕ, ◌+◌, ◌%◌, Bool, not, ◌&&◌, nat_lt, ◌==◌, List, [], ◌∷◌, ◌++◌, length, drop, ⊤, Option, Some, None, IfSome, is_some, if◌then◌else◌}
-use Rattle.event_record.specs.Fields.{record_id}
+use Rattle.std.specs.Prelude.{ℕ, ◌+◌, ◌-◌, ◌%◌, Bool, not, ◌&&◌, nat_lt, ◌==◌, List, [], ◌∷◌, length, drop, ⊤, Option, Some, None, IfSome, is_some, if◌then◌else◌}
 use Rattle.lan_dest.specs.Attempts.{Counted, verdict, begun as begun_attempt, heard, answered, is_done}
 use Rattle.lan_dest.specs.declared.destination.Destination.{Destination}
 use Rattle.lan_dest.specs.Parameters as lan
@@ -9,58 +8,60 @@ use Rattle.alert_trap.specs.Acknowledgement.{ack_awaited}
 use Rattle.pet_body.specs.declared.ack.PetAck.{PetAck}
 use Rattle.policy_walk.specs.First.{first_tried}
 use Rattle.policy_walk.specs.Tried.{Any}
-use Rattle.pef_config.specs.Places.{Tables, our_sizes, last_or, written}
+use Rattle.pef_config.specs.Places.{Write, Tables, our_sizes, last_or, written, powered}
+use Rattle.pef_match.specs.declared.target.Target.{Target}
+use Rattle.pef_match.specs.AtOnce.{at_once}
 use Rattle.pef_match.specs.Parts.{Parts}
 use Rattle.pef_match.specs.Job.{job}
 use Rattle.pef_core.specs.declared.counts.Counts.{Counts}
 use Rattle.pef_core.specs.declared.counts.Counts.TheVariants.{Second, Ack, Heard}
-use Rattle.pef_core.specs.declared.note.Note.{Note}
-use Rattle.pef_core.specs.declared.note.Note.TheVariants.{Added, Nothing}
 use Rattle.pef_core.specs.declared.part.Alerting.{Alerting as Alert}
 use Rattle.pef_core.specs.declared.part.Part.{Part}
 use Rattle.pef_core.specs.declared.part.Part.TheVariants.{Acting, Alerting, Calling}
+use Rattle.pef_core.specs.declared.postpone.Postpone.{Postpone}
+use Rattle.pef_core.specs.declared.postpone.Postpone.TheVariants.{Seconds}
 use Rattle.pef_core.specs.declared.progress.Progress.{Progress}
 use Rattle.pef_core.specs.declared.progress.Progress.TheVariants.{GoesOn, Ended}
 use Rattle.pef_core.specs.declared.turn.Turn.{Turn}
 use Rattle.pef_core.specs.declared.turn.Turn.TheVariants.{ToAct, ToAlert, ToCall}
 use Rattle.pef_core.specs.declared.work.Work.{Work}
 use Rattle.pef_core.specs.Counting.{same_ack}
-use Rattle.pef_core.specs.Past.{Effect, Unchanged, SetPef, SetLan, Deed, Logged, Dropped, Replied, Ticked, WasTold, counts_of}
+use Rattle.pef_core.specs.Past.{Effect, Marked, Cleared, Sends, StatusCleared, Deed, Ticked, Powered, effect_of, records_with, pef_written, lan_written, delay_by, armed_in, set_or, less_by, software_with, note_with, reply_with, counts_of}
 use Rattle.pef_core.specs.Undertaking.{set_at, stops_at, target_at, first_stage, turn_in, turn_at}
-use Rattle.pef_core.specs.Course.{Force, guid_by, is_enabled}
+use Rattle.pef_core.specs.Course.{Force, guid_by, mark_behind, status_behind, number_of, may_begin}
 use Rattle.pef_core.specs.Running.{Running, IsTurn}
-use Rattle.pef_core.specs.Values.{Now, Values, stamp_at}
+use Rattle.pef_core.specs.Values.{Now, Values, stamp_at, force_of}
 
-abbrev pub effect_of : Deed → Effect
-effect_of (Replied octets effect) = effect
-effect_of deed = Unchanged
+-- what these writes put at each place, and elsewhere what was there
+abbrev pub pef_behind : List Write → Tables → Tables
+pef_behind [] tables = tables
+pef_behind (write ∷ writes) tables = λ place. last_or (pef_behind writes tables place) (written write place)
 
-abbrev pub pef_with : Effect → Tables → Tables
-pef_with (SetPef write) tables = λ place. last_or (tables place) (written write place)
-pef_with effect tables = tables
+abbrev pub lan_behind : List lan.Write → lan.Tables → lan.Tables
+lan_behind [] tables = tables
+lan_behind (write ∷ writes) tables = lan.written write (lan_behind writes tables)
 
-abbrev pub lan_with : Effect → lan.Tables → lan.Tables
-lan_with (SetLan write) tables = lan.written write tables
-lan_with effect tables = tables
+abbrev pub pef_after : Deed → Tables → Tables
+pef_after Powered tables = powered tables
+pef_after deed tables = pef_behind (pef_written (effect_of deed)) tables
 
-abbrev pub records_after : Deed → List (List ℕ) → List (List ℕ)
-records_after (Logged event) records = records ++ event ∷ []
-records_after deed records = records
+abbrev pub lan_after : Deed → lan.Tables → lan.Tables
+lan_after Powered tables = lan.powered tables
+lan_after deed tables = lan_behind (lan_written (effect_of deed)) tables
 
 abbrev pub ticks_after : Deed → ℕ → ℕ
 ticks_after Ticked ticks = (ticks + 1) % 4294967296
 ticks_after deed ticks = ticks
 
-abbrev pub note_after : Deed → Note → Note
-note_after (Logged event) before = Added (record_id event)
-note_after (Dropped why) before = why
-note_after (WasTold told) before = before
-note_after deed before = Nothing
+abbrev pub delay_after : Deed → Tables → ℕ → ℕ
+delay_after Ticked tables delay = delay - 1
+delay_after Powered tables delay = delay_by tables
+delay_after deed tables delay = delay
 
-abbrev pub reply_after : Deed → Option (List ℕ) → Option (List ℕ)
-reply_after (Replied octets effect) before = Some octets
-reply_after (WasTold told) before = before
-reply_after deed before = None
+abbrev pub postpone_after : Deed → Postpone → Postpone
+postpone_after Ticked timer = less_by 1 timer
+postpone_after Powered timer = Seconds 0
+postpone_after deed timer = set_or timer (armed_in (effect_of deed))
 
 -- one second more for an alert, whose seconds count from its first outcome on; an acknowledgement; an outcome
 abbrev pub attempt_after : Counts → PetAck → Counted → Counted
@@ -68,19 +69,19 @@ attempt_after Second wanted attempt = record attempt { ticks = if attempt.outcom
 attempt_after (Ack ack) wanted attempt = if same_ack ack wanted then answered attempt else attempt
 attempt_after (Heard told) wanted attempt = heard told attempt
 
-abbrev pub alert_after : Counts → List ℕ → Alert → Alert
-alert_after counts event alert = record alert { attempt = attempt_after counts (ack_awaited alert.sequence (Some event)) alert.attempt }
+abbrev pub alert_after : Counts → Option (List ℕ) → Alert → Alert
+alert_after counts event alert = record alert { attempt = attempt_after counts (ack_awaited alert.sequence event) alert.attempt }
 
 abbrev pub outcome_of : Counts → Option Bool
 outcome_of (Heard told) = Some (is_done told)
 outcome_of counts = None
 
 -- the part that is open with what counts now, and how it ends then
-abbrev pub part_after : Counts → List ℕ → Part → Part
+abbrev pub part_after : Counts → Option (List ℕ) → Part → Part
 part_after counts event (Alerting alert) = Alerting (alert_after counts event alert)
 part_after counts event part = part
 
-abbrev pub result_after : Counts → List ℕ → Part → Option Bool
+abbrev pub result_after : Counts → Option (List ℕ) → Part → Option Bool
 result_after counts event (Alerting alert) = verdict (alert_after counts event alert).attempt
 result_after counts event part = outcome_of counts
 
@@ -119,10 +120,10 @@ abbrev pub sequence_after : Turn → ℕ → ℕ
 sequence_after (ToAlert first place) sequence = following sequence
 sequence_after turn sequence = sequence
 
--- what was begun goes on with this turn, or is over
-abbrev pub begins : Work → ℕ → Option Turn → Now → Now
-begins work stamp None n = record n { running = None; mark = work.number }
-begins work stamp (Some turn) n = record n {
+-- what was begun goes on with this turn, or is over, where its last part ended so
+abbrev pub begins : Work → ℕ → Option Turn → Option Bool → Now → Now
+begins work stamp None last n = record n { running = None; mark = mark_behind work.number n.mark; status = status_behind work.number last n.status }
+begins work stamp (Some turn) last n = record n {
   running = Some (record { work = work; part = part_begun work.job n.sequence stamp turn });
   sequence = sequence_after turn n.sequence;
 }
@@ -130,7 +131,7 @@ begins work stamp (Some turn) n = record n {
 -- a part with a result is over
 abbrev pub progress_by : Counts → Running → Option Bool → Progress
 progress_by counts r None = GoesOn (record r { part = part_after counts r.work.job.event r.part })
-progress_by counts r (Some result) = Ended r.work (turn_behind r.work.job r.part result)
+progress_by counts r (Some result) = Ended r.work (turn_behind r.work.job r.part result) result
 
 abbrev pub progress : Counts → Running → Progress
 progress counts r = progress_by counts r (result_after counts r.work.job.event r.part)
@@ -138,11 +139,11 @@ progress counts r = progress_by counts r (result_after counts r.work.job.event r
 -- a turn that comes is one that can
 abbrev pub IsProgress : Progress → Type 0
 IsProgress (GoesOn r) = ⊤
-IsProgress (Ended work turn) = IfSome turn (λ turn. IsTurn work.job.targets turn)
+IsProgress (Ended work turn result) = IfSome turn (λ turn. IsTurn work.job.targets turn)
 
 abbrev pub now_with : ℕ → Progress → Now → Now
 now_with stamp (GoesOn r) n = record n { running = Some r }
-now_with stamp (Ended work turn) n = begins work stamp turn n
+now_with stamp (Ended work turn result) n = begins work stamp turn (Some result) n
 
 abbrev pub counted_now : Counts → ℕ → Option Running → Now → Now
 counted_now counts stamp None n = n
@@ -152,21 +153,30 @@ abbrev pub moved_by : Option Counts → ℕ → Now → Now
 moved_by None stamp n = n
 moved_by (Some counts) stamp n = counted_now counts stamp n.running n
 
+-- an alert to this target at once
+abbrev pub work_at_once : Target → List ℕ → Work
+work_at_once target guid = record { number = None; job = at_once target; guid = guid }
+
+-- what a command does to it, by the records of the log
+abbrev pub now_with_effect : Effect → ℕ → List (List ℕ) → Now → Now
+now_with_effect (Marked id) stamp records n = record n { mark = number_of records id }
+now_with_effect Cleared stamp records n = record n { mark = 0 }
+now_with_effect (Sends target guid) stamp records n = begins (work_at_once target guid) stamp (Some (ToAlert 0 0)) None (record n { status = 0xFF })
+now_with_effect StatusCleared stamp records n = record n { status = 0x00 }
+now_with_effect effect stamp records n = n
+
 -- the jobs of these records begun, where none runs
 abbrev pub work_of : Force → ℕ → List ℕ → Work
-work_of f number event = record { number = number; job = job our_sizes f.pef f.lan f.own.ports event; guid = guid_by f }
+work_of f number event = record { number = Some number; job = job our_sizes f.pef f.lan f.own.ports event; guid = guid_by f }
 
-abbrev pub begin_with : (Now → Now) → Work → ℕ → Option Turn → Now → Now
-begin_with go_on work stamp None n = go_on (record n { mark = work.number })
-begin_with go_on work stamp (Some turn) n = begins work stamp (Some turn) n
+abbrev pub begin_with : (Now → Now) → ℕ → Work → ℕ → Option Turn → Now → Now
+begin_with go_on number work stamp None n = go_on (record n { mark = number })
+begin_with go_on number work stamp (Some turn) n = begins work stamp (Some turn) None n
 
 abbrev pub begin_jobs_now : Force → ℕ → List (List ℕ) → Now → Now
 begin_jobs_now f stamp [] n = n
 begin_jobs_now f stamp (event ∷ events) n =
-    begin_with (begin_jobs_now f stamp events) (work_of f (n.mark + 1) event) stamp (first_turn (work_of f (n.mark + 1) event).job) n
-
-abbrev pub force_of : Values → Force
-force_of v = record { own = v.own; pef = v.pef; lan = v.lan }
+    begin_with (begin_jobs_now f stamp events) (n.mark + 1) (work_of f (n.mark + 1) event) stamp (first_turn (work_of f (n.mark + 1) event).job) n
 
 -- where none runs: with the jobs of the records behind the mark begun
 abbrev pub begun : Values → Values
@@ -176,18 +186,25 @@ begun v = record v { now = begin_jobs_now (force_of v) (stamp_at v.ticks) (drop 
 abbrev pub with_deed : Deed → Values → Values
 with_deed d v = record {
   own = v.own;
-  pef = pef_with (effect_of d) v.pef;
-  lan = lan_with (effect_of d) v.lan;
+  pef = pef_after d v.pef;
+  lan = lan_after d v.lan;
   ticks = ticks_after d v.ticks;
-  records = records_after d v.records;
-  note = note_after d v.note;
-  reply = reply_after d v.reply;
-  now = moved_by (counts_of d) (stamp_at (ticks_after d v.ticks)) v.now;
+  delay = delay_after d (pef_after d v.pef) v.delay;
+  postpone = postpone_after d v.postpone;
+  records = records_with d v.records;
+  software = software_with (effect_of d) v.software;
+  note = note_with d v.note;
+  reply = reply_with d v.reply;
+  now = moved_by (counts_of d) (stamp_at (ticks_after d v.ticks)) (now_with_effect (effect_of d) (stamp_at v.ticks) v.records v.now);
 }
 
--- and with the job that begins then, where none runs and PEF is enabled
+-- a job may begin
+abbrev pub may_begin_now : Values → Bool
+may_begin_now v = may_begin v.pef v.delay v.postpone
+
+-- and with the job that begins then, where none runs and none is held
 abbrev pub with_next_job : Values → Values
-with_next_job v = if not (is_some v.now.running) && is_enabled v.pef then begun v else v
+with_next_job v = if not (is_some v.now.running) && may_begin_now v then begun v else v
 
 abbrev pub values_after : Deed → Values → Values
 values_after d v = with_next_job (with_deed d v)

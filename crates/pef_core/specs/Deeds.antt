@@ -7,9 +7,9 @@ use Rattle.event_record.specs.Log.{add_fault}
 use Rattle.pef_engine.specs.declared.entry.Entry.{Entry}
 use Rattle.pef_engine.specs.declared.entry.Entry.TheVariants.{Item as Taken, Outcome}
 use Rattle.pef_core.specs.declared.item.Item.{Item}
-use Rattle.pef_core.specs.declared.item.Item.TheVariants.{Event, Command, Tick, Open, Close}
+use Rattle.pef_core.specs.declared.item.Item.TheVariants.{Event, Command, Tick, Power, Open, Close}
 use Rattle.pef_core.specs.declared.note.Note.TheVariants.{Refused, NotAdded}
-use Rattle.pef_core.specs.Past.{Deed, Logged, Dropped, Replied, Passed, Ticked, WasTold}
+use Rattle.pef_core.specs.Past.{Deed, Logged, Dropped, Replied, Passed, Ticked, Powered, WasTold}
 use Rattle.pef_core.specs.Replies.{Answer, answer}
 use Rattle.pef_core.specs.Values.{Values, values}
 
@@ -24,8 +24,9 @@ reply_deed a = Replied a.octets a.effect
 
 abbrev pub item_deed : Values → Item → Deed
 item_deed v (Event event) = event_deed (record_fault event) (add_fault v.records event) event
-item_deed v (Command asked) = reply_deed (answer v.pef v.lan asked)
+item_deed v (Command asked) = reply_deed (answer v asked)
 item_deed v Tick = Ticked
+item_deed v Power = Powered
 item_deed v (Open id count) = Passed
 item_deed v Close = Passed
 

@@ -16,7 +16,7 @@ use Rattle.pef_engine.specs.Marks.{mark_octets}
 use Rattle.pef_engine.specs.Rules.{Rules}
 use Rattle.pef_engine.specs.Scripts.{MayCome, script_of}
 use Rattle.pef_core.specs.declared.item.Item.{Item}
-use Rattle.pef_core.specs.declared.item.Item.TheVariants.{Event, Command, Tick, Open, Close}
+use Rattle.pef_core.specs.declared.item.Item.TheVariants.{Event, Command, Tick, Power, Open, Close}
 use Rattle.pef_core.specs.declared.own.Own.{Own}
 use Rattle.pef_core.specs.declared.part.Alerting.{Alerting as Alert}
 use Rattle.pef_core.specs.declared.part.Part.{Part}
@@ -34,14 +34,19 @@ is_due attempt = nat_lt attempt.outcomes (sends attempt.wait attempt.retries att
 -- the datagram of an alert: the trap of its target, with the sequence number and the time-stamp that it drew
 abbrev pub trap_step : Own → Work → Alert → Target → Step
 trap_step own work alert target = Datagram target.to.to
-    (trap_octets own.origin (record { guid = work.guid; sequence = alert.sequence; stamp = alert.stamp }) (Some work.job.event) target.severity target.text target.to.community)
+    (trap_octets own.origin (record { guid = work.guid; sequence = alert.sequence; stamp = alert.stamp }) work.job.event target.severity target.text target.to.community)
+
+-- the record that an action is for; an alert at once has none, and no action
+abbrev pub id_of : Option (List ℕ) → ℕ
+id_of None = 0x0000
+id_of (Some event) = record_id event
 
 -- the step of a part that is open
 abbrev pub part_step : Own → Work → Part → Option Step
-part_step own work (Acting act) = Some (Act act (record_id work.job.event))
+part_step own work (Acting act) = Some (Act act (id_of work.job.event))
 part_step own work (Alerting alert) =
     if is_due alert.attempt then Some (trap_step own work alert (target_at work.job.targets alert.first alert.place)) else None
-part_step own work Calling = Some (Act Oem (record_id work.job.event))
+part_step own work Calling = Some (Act Oem (id_of work.job.event))
 
 abbrev pub running_step : Own → Option Running → Option Step
 running_step own None = None
@@ -61,6 +66,7 @@ abbrev pub IsItem : Item → Type 0
 IsItem (Event octets) = length octets ≡ 16
 IsItem (Command asked) = IsRequest asked
 IsItem Tick = ⊤
+IsItem Power = ⊤
 IsItem (Open id count) = (id < 2 ^ 32) × (count < 2 ^ 32)
 IsItem Close = ⊤
 
@@ -68,11 +74,12 @@ abbrev pub IsEntry : Entry Item → Type 0
 IsEntry (Taken item) = IsItem item
 IsEntry (Outcome told) = ⊤
 
--- the octets of an entry: of an event, a command and a tick a tag and its octets, of the others those of every machine that takes scripts
+-- the octets of an entry: of an event, a command, a tick and a power cycle a tag and its octets, of the others those of every machine that takes scripts
 abbrev pub encode : Entry Item → List ℕ
 encode (Taken (Event octets)) = 0x01 ∷ octets
 encode (Taken (Command asked)) = 0x02 ∷ asked.netfn ∷ asked.cmd ∷ asked.payload
 encode (Taken Tick) = 0x03 ∷ []
+encode (Taken Power) = 0x04 ∷ []
 encode (Taken (Open id count)) = mark_octets (Opened id count)
 encode (Taken Close) = mark_octets Closed
 encode (Outcome told) = mark_octets (Told told)

@@ -11,10 +11,10 @@ use Rattle.pef_engine.specs.declared.script.ScriptStep.TheVariants.{Takes}
 use Rattle.pef_engine.specs.MachineView.{Agrees}
 use Rattle.pef_engine.specs.Scripts.{MayCome, IsScripted}
 use Rattle.pef_core.specs.declared.item.Item.{Item}
-use Rattle.pef_core.specs.declared.item.Item.TheVariants.{Event, Command, Tick, Open, Close}
+use Rattle.pef_core.specs.declared.item.Item.TheVariants.{Event, Command, Tick, Power, Open, Close}
 use Rattle.pef_core.specs.declared.controller.Controller.{Controller}
 use Rattle.pef_core.specs.Histories.{running_step, pending, IsEntry, encode, controller_rules}
-use Rattle.pef_core.specs.Report.{event_of, command_by, command_of, tick_of, item_of_words, step_in, controller_scripts}
+use Rattle.pef_core.specs.Report.{event_of, command_by, command_of, alone, item_of_words, step_in, controller_scripts}
 use Rattle.script_text.specs.Forms.{words_of, octets_exactly, octets_up_to}
 use Rattle.pef_core.specs.View.{ShowsController, due_of, AllowedBy, view_of}
 
@@ -29,6 +29,7 @@ pub some_octet : (entry : Entry Item) → 1 ≤ length (encode entry)
 some_octet (Taken (Event octets)) = omega arith
 some_octet (Taken (Command asked)) = omega arith
 some_octet (Taken Tick) = omega arith
+some_octet (Taken Power) = omega arith
 some_octet (Taken (Open id count)) = omega arith
 some_octet (Taken Close) = omega arith
 some_octet (Outcome Done) = omega arith
@@ -85,19 +86,20 @@ commands_take (netfn ∷ cmd ∷ []) item is = absurd (cc is)
 commands_take (netfn ∷ cmd ∷ payload ∷ []) item is = command_by_takes (octets_exactly 1 netfn) (octets_exactly 1 cmd) (octets_up_to 64 payload) item is
 commands_take (netfn ∷ cmd ∷ payload ∷ other ∷ more) item is = absurd (cc is)
 
-ticks_take : (words : List (List ℕ)) (item : Item) → tick_of words ≡ Some item → step_in item ≡ Takes
-ticks_take [] item is = let same : Tick ≡ item = cc is in ap step_in (sym same)
-ticks_take (word ∷ words) item is = absurd (cc is)
+alone_takes : (what item : Item) (words : List (List ℕ)) → step_in what ≡ Takes → alone what words ≡ Some item → step_in item ≡ Takes
+alone_takes what item [] of_it is = let same : what ≡ item = cc is in ap step_in (sym same) ∙ of_it
+alone_takes what item (word ∷ words) of_it is = absurd (cc is)
 
 takes : (words : List (List ℕ)) (item : Item) → item_of_words words ≡ Some item → step_in item ≡ Takes
 takes [] item is = absurd (cc is)
-takes (first ∷ words) item is = by (bytes_eq first (codes "event")) (bytes_eq first (codes "cmd")) (bytes_eq first (codes "tick")) is
+takes (first ∷ words) item is = by (bytes_eq first (codes "event")) (bytes_eq first (codes "cmd")) (bytes_eq first (codes "tick")) (bytes_eq first (codes "power")) is
   where
-    by : (a b c : Bool) → (if a then event_of words else if b then command_of words else if c then tick_of words else None) ≡ Some item → step_in item ≡ Takes
-    by true b c e = events_take words item e
-    by false true c e = commands_take words item e
-    by false false true e = ticks_take words item e
-    by false false false e = absurd (cc e)
+    by : (a b c d : Bool) → (if a then event_of words else if b then command_of words else if c then alone Tick words else if d then alone Power words else None) ≡ Some item → step_in item ≡ Takes
+    by true b c d e = events_take words item e
+    by false true c d e = commands_take words item e
+    by false false true d e = alone_takes Tick item words refl e
+    by false false false true e = alone_takes Power item words refl e
+    by false false false false e = absurd (cc e)
 
 -- a controller takes items as its scripts say
 pub controller_scripted : IsScripted controller_rules controller_scripts

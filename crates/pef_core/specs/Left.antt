@@ -9,6 +9,7 @@ use Rattle.pef_core.specs.declared.progress.Progress.{Progress}
 use Rattle.pef_core.specs.declared.progress.Progress.TheVariants.{GoesOn, Ended}
 use Rattle.pef_core.specs.declared.turn.Turn.{Turn}
 use Rattle.pef_core.specs.declared.turn.Turn.TheVariants.{ToAct, ToAlert, ToCall}
+use Rattle.pef_core.specs.Course.{mark_behind}
 use Rattle.pef_core.specs.Running.{Running}
 use Rattle.pef_core.specs.Values.{Values}
 
@@ -32,12 +33,12 @@ turn_left job (Some ToCall) = 1
 
 abbrev pub progress_left : Progress → ℕ
 progress_left (GoesOn r) = part_left r.work.job r.part
-progress_left (Ended work turn) = turn_left work.job turn
+progress_left (Ended work turn result) = turn_left work.job turn
 
 -- what runs, and 18 for each record behind it, of so many
 abbrev pub now_left : Option Running → ℕ → ℕ → ℕ
 now_left None mark records = 18 * (records - mark)
-now_left (Some r) mark records = part_left r.work.job r.part + 18 * (records - r.work.number)
+now_left (Some r) mark records = part_left r.work.job r.part + 18 * (records - mark_behind r.work.number mark)
 
 abbrev pub left : Values → ℕ
 left v = now_left v.now.running v.now.mark (length v.records)

@@ -11,7 +11,7 @@ use Rattle.pef_engine.specs.declared.script.ScriptStep.TheVariants.{Opens, Takes
 use Rattle.pef_engine.specs.Scripts.{ScriptRules}
 use Rattle.script_text.specs.Forms.{words_of, octets_exactly, octets_up_to}
 use Rattle.pef_core.specs.declared.item.Item.{Item}
-use Rattle.pef_core.specs.declared.item.Item.TheVariants.{Event, Command, Tick, Open, Close}
+use Rattle.pef_core.specs.declared.item.Item.TheVariants.{Event, Command, Tick, Power, Open, Close}
 use Rattle.pef_core.specs.declared.note.Note.{Note}
 use Rattle.pef_core.specs.declared.note.Note.TheVariants.{Added, Refused, NotAdded, Nothing}
 use Rattle.pef_core.specs.Past.{note, reply}
@@ -44,6 +44,7 @@ abbrev pub line_by : Values → Item → List ℕ
 line_by v (Event octets) = note_line (note (item_deed v (Event octets) ∷ []))
 line_by v (Command asked) = reply_line (reply (item_deed v (Command asked) ∷ []))
 line_by v Tick = codes "tick\n"
+line_by v Power = codes "power\n"
 line_by v (Open id count) = open_line id count
 line_by v Close = codes "close\n"
 
@@ -72,19 +73,20 @@ command_of (netfn ∷ cmd ∷ payload ∷ []) = command_by (octets_exactly 1 net
 command_of (netfn ∷ cmd ∷ payload ∷ other ∷ more) = None
 
 -- nothing more
-abbrev pub tick_of : List (List ℕ) → Option Item
-tick_of [] = Some Tick
-tick_of (word ∷ words) = None
+abbrev pub alone : Item → List (List ℕ) → Option Item
+alone item [] = Some item
+alone item (word ∷ words) = None
 
 abbrev pub item_of_words : List (List ℕ) → Option Item
 item_of_words [] = None
 item_of_words (first ∷ words) =
     if bytes_eq first (codes "event") then event_of words
     else if bytes_eq first (codes "cmd") then command_of words
-    else if bytes_eq first (codes "tick") then tick_of words
+    else if bytes_eq first (codes "tick") then alone Tick words
+    else if bytes_eq first (codes "power") then alone Power words
     else None
 
--- the item of a line: `event` and a record, `cmd` and a command, or `tick`
+-- the item of a line: `event` and a record, `cmd` and a command, `tick`, or `power`
 abbrev pub item_of : List ℕ → Option Item
 item_of line = item_of_words (words_of line)
 
@@ -93,6 +95,7 @@ abbrev pub step_in : Item → ScriptStep
 step_in (Event octets) = Takes
 step_in (Command asked) = Takes
 step_in Tick = Takes
+step_in Power = Takes
 step_in (Open id count) = Opens id count
 step_in Close = Closes
 

@@ -17,9 +17,10 @@ use Rattle.pef_core.specs.declared.turn.Turn.TheVariants.{ToAct, ToAlert, ToCall
 use Rattle.pef_core.specs.Counting.{counted, outcome_in}
 
 -- The job of the record of this number in the log, counted from 1, and the GUID in force, as they were when it began; how many alerts the
--- controller had begun before; and what counts since then, the latest first.
+-- controller had begun before; and what counts since then, the latest first. An alert that is sent at once has no record, and so no number
+-- (IPMI 2.0, section 30.7).
 pub record Undertaking : Type 0 where
-  pub number : ℕ
+  pub number : Option ℕ
   pub job : Parts
   pub guid : List ℕ
   pub drawn : ℕ
@@ -88,7 +89,7 @@ sequence_behind drawn = 1 + drawn % 65535
 
 -- how an alert stands, which drew this sequence number
 abbrev pub alert_at : Parts → ℕ → ℕ → ℕ → List Counts → Counted
-alert_at job sequence first place since = counted (target_at job.targets first place).to (ack_awaited sequence (Some job.event)) since
+alert_at job sequence first place since = counted (target_at job.targets first place).to (ack_awaited sequence job.event) since
 
 -- how a part ended, nothing while it goes on
 abbrev pub result_of : Parts → ℕ → Turn → List Counts → Option Bool
@@ -96,10 +97,12 @@ result_of job sequence (ToAct act) since = outcome_in since
 result_of job sequence (ToAlert first place) since = verdict (alert_at job sequence first place since)
 result_of job sequence ToCall since = outcome_in since
 
--- What counts is cut into parts, one behind the other: how far they came, how many alerts are over, and what counts for the open part.
+-- What counts is cut into parts, one behind the other: how far they came, how many alerts are over, how the latest part that is over ended,
+-- and what counts for the open part.
 pub record Cut : Type 0 where
   pub stage : Stage
   pub alerts : ℕ
+  pub last : Option Bool
   pub since : List Counts
 
 abbrev pub one_if_alert : Turn → ℕ
@@ -109,14 +112,14 @@ one_if_alert turn = 0
 -- a part ends as soon as it has a result
 abbrev pub ended_or : Parts → Turn → Option Bool → List Counts → Cut → Cut
 ended_or job turn None since cut = record cut { since = since }
-ended_or job turn (Some result) since cut = record { stage = stage_after job turn result cut.stage; alerts = cut.alerts + one_if_alert turn; since = [] }
+ended_or job turn (Some result) since cut = record { stage = stage_after job turn result cut.stage; alerts = cut.alerts + one_if_alert turn; last = Some result; since = [] }
 
 abbrev pub joined : Undertaking → Counts → Cut → Option Turn → Cut
 joined u counts cut None = cut
 joined u counts cut (Some turn) = ended_or u.job turn (result_of u.job (sequence_behind (u.drawn + cut.alerts)) turn (counts ∷ cut.since)) (counts ∷ cut.since) cut
 
 abbrev pub cut_by : Undertaking → List Counts → Cut
-cut_by u [] = record { stage = first_stage u.job.act; alerts = 0; since = [] }
+cut_by u [] = record { stage = first_stage u.job.act; alerts = 0; last = None; since = [] }
 cut_by u (counts ∷ since) = joined u counts (cut_by u since) (turn_at u.job (cut_by u since).stage)
 
 abbrev pub cut_of : Undertaking → Cut

@@ -7,28 +7,34 @@ use Rattle.pef_core.specs.declared.own.Own.{Own}
 use Rattle.pef_core.specs.declared.part.Alerting.{Alerting as Alert}
 use Rattle.pef_core.specs.declared.part.Part.{Part}
 use Rattle.pef_core.specs.declared.part.Part.TheVariants.{Acting, Alerting, Calling}
+use Rattle.pef_core.specs.declared.postpone.Postpone.{Postpone}
 use Rattle.pef_core.specs.declared.turn.Turn.{Turn}
 use Rattle.pef_core.specs.declared.turn.Turn.TheVariants.{ToAct, ToAlert, ToCall}
 use Rattle.pef_core.specs.declared.work.Work.{Work}
 use Rattle.pef_core.specs.Counting.{all_seconds}
 use Rattle.pef_core.specs.Settings.{own_of}
-use Rattle.pef_core.specs.Past.{Deed, log, pef, lan_tables, ticks, note, reply}
+use Rattle.pef_core.specs.Past.{Deed, log, pef, lan_tables, ticks, delay, postpone, software, note, reply}
 use Rattle.pef_core.specs.Undertaking.{Undertaking, Cut, cut_of, turn_of, alert_at, sequence_behind}
-use Rattle.pef_core.specs.Course.{Course, drawn_by, course}
+use Rattle.pef_core.specs.Course.{Course, Force, drawn_by, course}
 use Rattle.pef_core.specs.Running.{Running}
 
--- where the course stands: the job that runs with its open part, the mark, and the sequence number that the next alert draws
+-- where the course stands: the job that runs with its open part, the mark, the sequence number that the next alert draws, and the status of
+-- Alert Immediate
 pub record Now : Type 0 where
   pub running : Option Running
   pub mark : ℕ
   pub sequence : ℕ
+  pub status : ℕ
 
 pub record Values : Type 0 where
   pub own : Own
   pub pef : Tables
   pub lan : lan.Tables
   pub ticks : ℕ
+  pub delay : ℕ
+  pub postpone : Postpone
   pub records : List (List ℕ)
+  pub software : ℕ
   pub note : Note
   pub reply : Option (List ℕ)
   pub now : Now
@@ -64,7 +70,7 @@ running now [] = None
 running now (u ∷ us) = running_at now u (turn_of u)
 
 abbrev pub now_of : ℕ → Course → Now
-now_of now c = record { running = running now c.undertakings; mark = c.mark; sequence = sequence_behind (drawn_by c.undertakings) }
+now_of now c = record { running = running now c.undertakings; mark = c.mark; sequence = sequence_behind (drawn_by c.undertakings); status = c.status }
 
 abbrev pub values : List ℕ → List Deed → Values
 values Z past = record {
@@ -72,8 +78,15 @@ values Z past = record {
   pef = pef Z past;
   lan = lan_tables past;
   ticks = ticks past % 4294967296;
+  delay = delay Z past;
+  postpone = postpone past;
   records = log past;
+  software = software past;
   note = note past;
   reply = reply past;
   now = now_of (ticks past) (course Z past);
 }
+
+-- what is in force there
+abbrev pub force_of : Values → Force
+force_of v = record { own = v.own; pef = v.pef; lan = v.lan }

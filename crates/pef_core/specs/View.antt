@@ -22,10 +22,13 @@ shown c = record {
   pef = tables c.config;
   lan = kept c.lan;
   ticks = c.ticks;
+  delay = c.delay;
+  postpone = c.postpone;
   records = c.log;
+  software = c.software;
   note = c.note;
   reply = c.reply;
-  now = record { running = c.running; mark = c.mark; sequence = c.sequence };
+  now = record { running = c.running; mark = c.mark; sequence = c.sequence; status = c.status };
 }
 
 -- it holds what stands after this history, and the script that was opened last in it

@@ -1,14 +1,17 @@
 //! The controller's state.
 ghost use Rattle.std.specs.Prelude.{◌≡◌};
+ghost use Rattle.pef_config.specs.Kept.{tables};
 ghost use Rattle.pef_core.specs.After.{following};
+ghost use Rattle.pef_core.specs.Course.{is_over as is_over_of, status_by as status_by_of};
+ghost use Rattle.pef_core.specs.Past.{delay_by, less_by};
 
 use crate::counts::Counts;
 use crate::events::add_event;
 use crate::item::{Item, step_in};
 use crate::note::Note;
 use crate::own::Own;
+use crate::postpone::Postpone;
 use crate::progress::Progress;
-use crate::replying::reply_to;
 use crate::running::Running;
 use crate::turn::Turn;
 use crate::turns::first_turn;
@@ -16,7 +19,6 @@ use crate::work::Work;
 use board_core::{Octets, Told};
 use event_record::Log;
 use lan_dest::Lan;
-use pef_commands::Request;
 use pef_config::{Config, Initial};
 use pef_engine::{Entry, Script, script_behind};
 use pef_match::job_of;
@@ -26,16 +28,23 @@ use std::alloc::{AllocError, Global};
 #[derive(Drop)]
 pub struct Controller {
     pub(crate) own: Own,
-    config: Config,
-    lan: Lan,
-    log: Log,
+    pub(crate) config: Config,
+    pub(crate) lan: Lan,
+    pub(crate) log: Log,
     /// The seconds so far, modulo 2 to the power of 32.
     ticks: u32,
+    /// The seconds left of the startup delay.
+    delay: u8,
+    pub(crate) postpone: Postpone,
     /// How many records at the front of the log are processed.
-    mark: usize,
+    pub(crate) mark: usize,
+    /// The ID of the record that software says it processed last, 0000h for none.
+    pub(crate) software: u16,
     /// The sequence number of the next alert, 1 to 65535.
     sequence: u16,
-    /// The job that runs, of the record behind the mark.
+    /// The status of Alert Immediate: 00h none, 01h ended with success, 03h failed, FFh pending.
+    pub(crate) status: u8,
+    /// What runs: the job of the record behind the mark, or an alert at once.
     pub(crate) running: Option<Running>,
     pub(crate) script: Option<Script>,
     note: Note,
@@ -48,13 +57,13 @@ impl Controller {
     ghost use Rattle.pef_engine.specs.Scripts.{MayCome, script_with, script_from};
     ghost use Rattle.pef_core.specs.Settings.{initial_of, own_of};
     ghost use Rattle.pef_core.specs.Deeds.{item_deed, deed, standing};
-    ghost use Rattle.pef_core.specs.After.{with_deed, with_next_job, begun, begins, counted_now, force_of, work_of};
-    ghost use Rattle.pef_core.specs.Past.{Ticked, WasTold};
+    ghost use Rattle.pef_core.specs.After.{with_deed, with_next_job, begun, begins, counted_now, work_of};
+    ghost use Rattle.pef_core.specs.Past.{Ticked, Powered, WasTold};
     ghost use Rattle.pef_core.specs.Running.{IsTurn, MayCountNow};
     ghost use Rattle.pef_core.specs.Left.{left};
     ghost use Rattle.pef_engine.specs.Rules.{IsOutcome};
-    ghost use Rattle.pef_core.specs.Values.{stamp_at};
-    ghost use Rattle.pef_core.specs.Course.{is_enabled};
+    ghost use Rattle.pef_core.specs.Values.{stamp_at, force_of};
+    ghost use Rattle.pef_core.specs.Course.{guid_by, is_enabled, may_begin};
     ghost use Rattle.pef_core.specs.Report.{step_in, controller_scripts};
     ghost use Rattle.pef_core.specs.View.{shown, due_of, ShowsController, AllowedBy};
 
@@ -62,14 +71,20 @@ impl Controller {
     pub(crate) fn new(alloc: Global, own: Own, initial: &Initial) -> Result<Controller, AllocError>
         ensures { IfOk result (λ controller. (Z : List ℕ) → own ≡ own_of Z → initial.now ≡ initial_of Z → ShowsController controller Z []) }
     {
+        let config = Config::new(initial);
+        let delay = startup_delay(&config);
         Ok(Controller {
             own,
-            config: Config::new(initial),
+            config,
             lan: Lan::new(),
             log: Log::new(alloc)?,
             ticks: 0,
+            delay,
+            postpone: Postpone::Seconds(0),
             mark: 0,
+            software: 0x0000,
             sequence: 1,
+            status: 0x00,
             running: None,
             script: None,
             note: Note::Nothing,
@@ -91,11 +106,11 @@ impl Controller {
         self.reply.as_ref()
     }
 
-    /// At most 18 steps are left before the next item for each record that isn't processed: its act, 16 alerts and the OEM action; each
-    /// outcome leaves fewer (`apply`). This does nothing when it runs.
+    /// At most 18 steps are left before the next item for each record that isn't processed: its act, 16 alerts and the OEM action; and one
+    /// of an alert at once. Each outcome leaves fewer (`apply`). This does nothing when it runs.
     pub fn has_few_steps_left(&self)
         ensures { (Z : List ℕ) (H : List (Entry Item)) → ShowsController self.now Z H
-            → left (shown self.now) ≤ 18 * (length self.now.log - self.now.mark) }
+            → left (shown self.now) ≤ 18 * (length self.now.log - self.now.mark) + 1 }
     {
         if let Some(running) = &self.running {
             running.is_open();
@@ -127,6 +142,7 @@ impl Controller {
             Item::Event(octets) => self.log_event(octets),
             Item::Command(request) => self.answer(request),
             Item::Tick => self.tick(),
+            Item::Power => self.power(),
             Item::Open { .. } | Item::Close => self.say_nothing(),
         }
     }
@@ -145,8 +161,21 @@ impl Controller {
         ensures script { self.new.script ≡ self.old.script }
     {
         self.ticks = self.ticks.wrapping_add(1);
+        self.delay = self.delay.saturating_sub(1);
+        self.postpone = one_second_less(self.postpone);
         self.say_nothing();
         self.count(&Counts::Second);
+    }
+
+    fn power(&mut self)
+        ensures values { shown self.new ≡ with_deed Powered (shown self.old) }
+        ensures script { self.new.script ≡ self.old.script }
+    {
+        self.config.power();
+        self.lan.power();
+        self.delay = startup_delay(&self.config);
+        self.postpone = Postpone::Seconds(0);
+        self.say_nothing();
     }
 
     fn log_event(&mut self, octets: &[u8; 16])
@@ -157,20 +186,8 @@ impl Controller {
         self.reply = None;
     }
 
-    fn answer(&mut self, request: &Request)
-        requires { due_of self.old ≡ None }
-        ensures values { shown self.new ≡ with_deed (item_deed (shown self.old) (Item.Command request.now)) (shown self.old) }
-        ensures script { self.new.script ≡ self.old.script }
-    {
-        let reply = reply_to(&mut self.config, &mut self.lan, request);
-        self.keep(reply.octets);
-        if let Some(ack) = reply.ack {
-            self.count(&Counts::Ack(ack));
-        }
-    }
-
-    // Keeps the reply to a command.
-    fn keep(&mut self, reply: Octets)
+    /// Keeps the reply to a command.
+    pub(crate) fn keep(&mut self, reply: Octets)
         ensures { self.new ≡ record self.old { note = Note.Nothing; reply = Some reply } }
     {
         self.note = Note::Nothing;
@@ -191,8 +208,8 @@ impl Controller {
         self.count(&Counts::Heard(told));
     }
 
-    // What counts for the job that runs brings it on.
-    fn count(&mut self, counts: &Counts)
+    /// What counts for what runs brings it on.
+    pub(crate) fn count(&mut self, counts: &Counts)
         requires { MayCountNow counts.now self.old.running }
         ensures values { shown self.new ≡ record (shown self.old) { now = counted_now counts.now (stamp_at self.old.ticks) self.old.running (shown self.old).now } }
         ensures script { self.new.script ≡ self.old.script }
@@ -202,19 +219,26 @@ impl Controller {
         };
         match running.after(counts) {
             Progress::GoesOn(running) => self.running = Some(running),
-            Progress::Ended { work, turn } => self.begin(work, turn),
+            Progress::Ended {
+                work,
+                turn,
+                success,
+            } => self.begin(work, turn, Some(success)),
         }
     }
 
-    // What was begun goes on with this turn, or is over.
-    fn begin(&mut self, work: Work, turn: Option<Turn>)
+    /// What was begun goes on with this turn, or is over, where its last part ended so.
+    pub(crate) fn begin(&mut self, work: Work, turn: Option<Turn>, last: Option<bool>)
         requires { IfSome turn (λ turn. IsTurn work.job.targets turn) }
-        ensures values { shown self.new ≡ record (shown self.old) { now = begins work (stamp_at self.old.ticks) turn (shown self.old).now } }
+        ensures values { shown self.new ≡ record (shown self.old) { now = begins work (stamp_at self.old.ticks) turn last (shown self.old).now } }
         ensures script { self.new.script ≡ self.old.script }
     {
         let Some(turn) = turn else {
-            self.mark = work.number;
             self.running = None;
+            match work.number {
+                Some(number) => self.mark = number,
+                None => self.status = status_by(last),
+            }
             return;
         };
         let stamp = self.ticks.wrapping_mul(100);
@@ -229,9 +253,16 @@ impl Controller {
         ensures values { shown self.new ≡ with_next_job (shown self.old) }
         ensures script { self.new.script ≡ self.old.script }
     {
-        if self.running.is_none() && self.is_enabled() {
+        if self.running.is_none() && self.may_begin() {
             self.begin_jobs();
         }
+    }
+
+    // Whether PEF is enabled and nothing holds it.
+    fn may_begin(&self) -> bool
+        ensures { result ≡ may_begin (tables self.now.config) self.now.delay self.now.postpone }
+    {
+        self.is_enabled() && self.delay == 0 && is_over(self.postpone)
     }
 
     fn is_enabled(&self) -> bool
@@ -248,10 +279,17 @@ impl Controller {
         let event = self.log.get(self.mark)?;
         prove!(self.mark < self.log.len());
         Some(Work {
-            number: self.mark + 1,
+            number: Some(self.mark + 1),
             job: job_of(&self.config, &self.lan, &self.own.ports, event),
-            guid: self.config.guid().unwrap_or(self.own.guid),
+            guid: self.guid(),
         })
+    }
+
+    /// The system GUID in force.
+    pub(crate) fn guid(&self) -> [u8; 16]
+        ensures { result ≡ guid_by (force_of (shown self.now)) }
+    {
+        self.config.guid().unwrap_or(self.own.guid)
     }
 
     // Begins the first job with a part among the records behind the mark, and passes over those for which nothing is to be done.
@@ -263,12 +301,50 @@ impl Controller {
         'records: while let Some(work) = self.waiting() {
             let turn = first_turn(&work.job);
             if turn.is_some() {
-                self.begin(work, turn);
+                self.begin(work, turn, None);
                 return;
             }
             self.mark += 1;
         }
     }
+}
+
+// The startup delay: parameter 3 where bit 2 of parameter 1 is 1.
+fn startup_delay(config: &Config) -> u8
+    ensures { result ≡ delay_by (tables config.now) }
+{
+    if config.control() / 4 % 2 == 1 {
+        config.delay()
+    } else {
+        0
+    }
+}
+
+// The timer one second later.
+fn one_second_less(timer: Postpone) -> Postpone
+    ensures { result ≡ less_by 1 timer }
+{
+    match timer {
+        Postpone::Disabled => Postpone::Disabled,
+        Postpone::Seconds(left) => Postpone::Seconds(left.saturating_sub(1)),
+    }
+}
+
+// Whether the timer holds nothing.
+fn is_over(timer: Postpone) -> bool
+    ensures { result ≡ is_over_of timer }
+{
+    match timer {
+        Postpone::Disabled => false,
+        Postpone::Seconds(left) => left == 0,
+    }
+}
+
+// The status of Alert Immediate behind an alert that ended so.
+fn status_by(last: Option<bool>) -> u8
+    ensures { result ≡ status_by_of last }
+{
+    if last == Some(true) { 0x01 } else { 0x03 }
 }
 
 // The sequence number behind this one: 65535 is followed by 1.

@@ -15,6 +15,8 @@ const COMMAND: u8 = 0x02;
 
 const TICK: u8 = 0x03;
 
+const POWER: u8 = 0x04;
+
 /// The octets of the entry: its tag, and then what it says.
 pub(crate) fn encode(entry: &Entry<Item>) -> Payload
     ensures { result ≡ encode entry.now }
@@ -28,6 +30,7 @@ pub(crate) fn encode(entry: &Entry<Item>) -> Payload
             )
         }
         Entry::Item(Item::Tick) => tagged(&[TICK], &[]),
+        Entry::Item(Item::Power) => tagged(&[POWER], &[]),
         Entry::Item(Item::Open { id, count }) => write_mark(Mark::Open {
             id: *id,
             count: *count,
@@ -59,8 +62,11 @@ pub(crate) fn decode(octets: &[u8]) -> Option<Entry<Item>>
     if let Some(request) = command_in(octets) {
         return Some(Entry::Item(Item::Command(request)));
     }
-    if is_tick(octets) {
+    if is_tag(octets, TICK) {
         return Some(Entry::Item(Item::Tick));
+    }
+    if is_tag(octets, POWER) {
+        return Some(Entry::Item(Item::Power));
     }
     match read_mark(octets) {
         Some(mark) => Some(marked(mark)),
@@ -89,13 +95,13 @@ fn event_in(octets: &[u8]) -> Option<[u8; 16]>
     }
 }
 
-// Whether these octets are those of a tick.
-fn is_tick(octets: &[u8]) -> bool
-    ensures tick { result ≡ true → octets.now ≡ 0x03 ∷ [] }
-    ensures other { result ≡ false → octets.now ≢ 0x03 ∷ [] }
+// Whether these octets are this tag alone.
+fn is_tag(octets: &[u8], tag: u8) -> bool
+    ensures alone { result ≡ true → octets.now ≡ tag ∷ [] }
+    ensures other { result ≡ false → octets.now ≢ tag ∷ [] }
 {
     match octets {
-        [tag] => *tag == TICK,
+        [first] => *first == tag,
         _ => false,
     }
 }

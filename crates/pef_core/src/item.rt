@@ -15,6 +15,8 @@ pub enum Item {
     Command(Request),
     /// One second passed.
     Tick,
+    /// The board's power was cycled, which clears what is volatile and sets the startup delay.
+    Power,
     /// From here on items are taken from this script, which has `count` of them.
     Open { id: u32, count: u32 },
     /// All items of the script were taken.
@@ -35,7 +37,7 @@ pub(crate) fn step_in(item: &Item) -> ScriptStep
             is_request(request);
             ScriptStep::Takes
         }
-        Item::Tick => ScriptStep::Takes,
+        Item::Tick | Item::Power => ScriptStep::Takes,
         Item::Open { id, count } => ScriptStep::Opens {
             id: *id,
             count: *count,

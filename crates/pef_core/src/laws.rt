@@ -1,26 +1,35 @@
 //! What the definitions promise, over any past, in the standard's words. These functions do nothing when they run.
-ghost use Rattle.std.specs.Prelude.{◌≡◌, ◌≤◌, ◌%◌, ◌∷◌, ℕ, List, length, true, false, Some, None};
+ghost use Rattle.std.specs.Prelude.{◌≡◌, ◌≤◌, ◌%◌, ◌∷◌, ◌++◌, ℕ, List, length, true, false, Some, None};
 ghost use Rattle.board_core.specs.declared.step.Act.{Act};
 ghost use Rattle.board_core.specs.declared.step.Told.{Told};
-ghost use Rattle.pef_core.specs.Past.{Deed, log, pef};
+ghost use Rattle.pef_core.specs.Past.{Deed, log, pef, delay, postpone};
+ghost use Rattle.pef_core.specs.Deeds.{past_of};
 ghost use Rattle.pef_core.specs.Counting.{outcomes};
 ghost use Rattle.pef_core.specs.Undertaking.{Undertaking, cut_of, turn_of, sequence_behind};
-ghost use Rattle.pef_core.specs.Course.{is_busy, is_enabled, course};
-ghost use Rattle.pef_core.specs.Promises.{GoesInOrder, AllBegan, IsSent, heard_by, with_later};
+ghost use Rattle.pef_core.specs.Course.{is_busy, may_begin, moved, course};
+ghost use Rattle.pef_core.specs.Promises.{GoesInOrder, NoneMoves, AllBegan, IsSent, heard_by, with_later};
 
 use crate::counts::Counts;
+use crate::item::Item;
 use crate::own::Own;
 use crate::turn::Turn;
+use pef_engine::Entry;
 
-/// Records are processed in their order, and none is skipped.
+/// As long as no command moves the mark, records are processed in their order from the mark on, and none is skipped.
 pub fn order_law()
-    ensures { (Z : List ℕ) (past : List Deed) → GoesInOrder past (course Z past) }
+    ensures { (Z : List ℕ) (H K : List (Entry Item)) → NoneMoves Z (past_of Z H) K → GoesInOrder (course Z (past_of Z H)) (course Z (past_of Z (H ++ K))) }
 {}
 
-/// Where nothing runs and PEF is enabled, no record is unprocessed.
+/// Where nothing runs, PEF is enabled and nothing holds it, no record is unprocessed: none stands behind the mark.
 pub fn idle_law()
-    ensures { (Z : List ℕ) (past : List Deed) → is_busy (course Z past).undertakings ≡ false → is_enabled (pef Z past) ≡ true
-        → (course Z past).mark ≡ length (log past) }
+    ensures { (Z : List ℕ) (past : List Deed) → is_busy (course Z past).undertakings ≡ false → may_begin (pef Z past) (delay Z past) (postpone past) ≡ true
+        → length (log past) ≤ (course Z past).mark }
+{}
+
+/// While PEF is disabled, or the startup delay or the postpone timer holds it, no job begins; one that runs goes on.
+pub fn hold_law()
+    ensures { (Z : List ℕ) (d : Deed) (past : List Deed) → may_begin (pef Z (d ∷ past)) (delay Z (d ∷ past)) (postpone (d ∷ past)) ≡ false
+        → course Z (d ∷ past) ≡ moved d (log past) (course Z past) }
 {}
 
 /// What a job does depends on the parameters at its start alone.

@@ -1,6 +1,7 @@
 //! The controller of Platform Event Filtering as a machine over its history.
 #![tactic(auto)]
 
+mod commands;
 mod controller;
 mod counts;
 mod entries;
@@ -11,6 +12,7 @@ mod machine;
 mod note;
 mod own;
 mod part;
+mod postpone;
 mod progress;
 mod replying;
 mod report;
@@ -22,8 +24,9 @@ mod work;
 
 pub use controller::Controller;
 pub use item::Item;
-pub use laws::{idle_law, job_law, order_law, retry_law, sequence_law, start_law};
+pub use laws::{hold_law, idle_law, job_law, order_law, retry_law, sequence_law, start_law};
 pub use note::Note;
+pub use postpone::Postpone;
 
 #[cfg(test)]
 mod tests;

@@ -9,6 +9,10 @@ use crate::work::Work;
 pub enum Progress {
     /// Its part is open still.
     GoesOn(Running),
-    /// The part is over, and this turn comes, or none.
-    Ended { work: Work, turn: Option<Turn> },
+    /// The part is over and ended so, and this turn comes, or none.
+    Ended {
+        work: Work,
+        turn: Option<Turn>,
+        success: bool,
+    },
 }

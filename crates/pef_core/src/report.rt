@@ -45,13 +45,14 @@ impl Scripted for Controller {
             Item::Event(_) => note_text(self.note()),
             Item::Command(_) => reply_text(self.reply()),
             Item::Tick => LineBuilder::new().text(b"tick").end(),
+            Item::Power => LineBuilder::new().text(b"power").end(),
             Item::Open { id, count } => open_text(*id, *count),
             Item::Close => LineBuilder::new().text(b"close").end(),
         }
     }
 }
 
-// The item of a line `event RECORD`, `cmd NETFN COMMAND OCTETS` or `tick`.
+// The item of a line `event RECORD`, `cmd NETFN COMMAND OCTETS`, `tick` or `power`.
 fn read_item(line: &[u8]) -> Option<Item>
     ensures { result ≡ item_of line.now }
 {
@@ -68,6 +69,8 @@ fn item_alone(word: &[u8]) -> Option<Item>
 {
     if word == b"tick".as_slice() {
         Some(Item::Tick)
+    } else if word == b"power".as_slice() {
+        Some(Item::Power)
     } else {
         None
     }

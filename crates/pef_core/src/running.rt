@@ -1,9 +1,9 @@
 //! The job that runs.
-ghost use Rattle.std.specs.Prelude.{◌≡◌, ◌<◌, ◌≤◌, length};
+ghost use Rattle.std.specs.Prelude.{◌≡◌, ◌<◌, ◌≤◌, length, is_some, option_copied};
 ghost use Rattle.lan_dest.specs.Attempts.{verdict};
 ghost use Rattle.pef_core.specs.After.{part_begun, progress, attempt_after, IsProgress};
 ghost use Rattle.pef_core.specs.Counting.{same_ack};
-ghost use Rattle.pef_core.specs.Histories.{part_step};
+ghost use Rattle.pef_core.specs.Histories.{part_step, id_of};
 ghost use Rattle.pef_core.specs.Running.{IsTurn, MayCount, IsOpenAlert, IsOpenPart};
 ghost use Rattle.pef_core.specs.Undertaking.{set_at, target_at};
 ghost use Rattle.pef_match.specs.Parts.{CanBeSent};
@@ -16,7 +16,8 @@ use crate::turn::Turn;
 use crate::turns::{turn_behind, turn_from};
 use crate::work::Work;
 use alert_trap::{Draw, awaited, trap_of};
-use board_core::{Act, Step};
+use board_core::{Act, Step, Told};
+use event_record::Record;
 use lan_dest::Attempt;
 use pef_match::{Job, Target};
 use pet_body::PetAck;
@@ -66,11 +67,18 @@ impl Running {
         let _ = &self.part;
     }
 
+    /// Whether this is the job of a record, and no alert at once.
+    pub(crate) fn is_job(&self) -> bool
+        ensures { result ≡ is_some self.now.work.number }
+    {
+        self.work.number.is_some()
+    }
+
     /// The step of the open part. Of an alert none is due while it waits.
     pub(crate) fn step(&self, own: &Own) -> Option<Step>
         ensures { result ≡ part_step own.now self.now.work self.now.part }
     {
-        let id = self.work.job.event().id();
+        let id = id_of(self.work.job.event());
         match &self.part {
             Part::Acting(kind) => Some(Step::Act { kind: *kind, id }),
             Part::Alerting(alert) => alert_step(own, &self.work, alert),
@@ -87,9 +95,14 @@ impl Running {
         let Running { work, part } = self;
         match part {
             Part::Acting(act) => match counts {
-                Counts::Heard(_) => {
+                Counts::Heard(told) => {
                     let turn = turn_from(&work.job, 0);
-                    Progress::Ended { work, turn }
+                    let success = *told == Told::Done;
+                    Progress::Ended {
+                        work,
+                        turn,
+                        success,
+                    }
                 }
                 _ => Progress::GoesOn(Running {
                     work,
@@ -98,13 +111,27 @@ impl Running {
             },
             Part::Alerting(alert) => alert_after(work, alert, counts),
             Part::Calling => match counts {
-                Counts::Heard(_) => Progress::Ended { work, turn: None },
+                Counts::Heard(told) => Progress::Ended {
+                    work,
+                    turn: None,
+                    success: *told == Told::Done,
+                },
                 _ => Progress::GoesOn(Running {
                     work,
                     part: Part::Calling,
                 }),
             },
         }
+    }
+}
+
+// The ID of the record that an action is for.
+fn id_of(event: Option<&Record>) -> u16
+    ensures { result ≡ id_of (option_copied event.entry) }
+{
+    match event {
+        Some(event) => event.id(),
+        None => 0x0000,
     }
 }
 
@@ -132,7 +159,7 @@ fn alert_step(own: &Own, work: &Work, alert: &Alerting) -> Option<Step>
         sequence: alert.sequence,
         stamp: alert.stamp,
     };
-    let event = Some(work.job.event());
+    let event = work.job.event();
     let octets = trap_of(
         &own.origin,
         &draw,
@@ -155,12 +182,16 @@ fn alert_after(work: Work, alert: Alerting, counts: &Counts) -> Progress
     ensures turn { IsProgress result }
 {
     let mut alert = alert;
-    let wanted = awaited(alert.sequence, Some(work.job.event()));
+    let wanted = awaited(alert.sequence, work.job.event());
     count(&mut alert.attempt, counts, &wanted);
     match alert.attempt.verdict() {
-        Some(result) => {
-            let turn = turn_behind(&work.job, alert.first, alert.place, result);
-            Progress::Ended { work, turn }
+        Some(success) => {
+            let turn = turn_behind(&work.job, alert.first, alert.place, success);
+            Progress::Ended {
+                work,
+                turn,
+                success,
+            }
         }
         None => {
             alert.attempt.has_one_due();

@@ -82,6 +82,10 @@ fn tick() -> Entry<Item> {
     Entry::Item(Item::Tick)
 }
 
+fn power() -> Entry<Item> {
+    Entry::Item(Item::Power)
+}
+
 fn told(told: Told) -> Entry<Item> {
     Entry::Outcome(told)
 }
@@ -325,6 +329,7 @@ fn an_entry_has_its_octets(rt: HostRuntime) {
         ),
         (command(&rt, 0xFF, &[]), [0x02, 0x04, 0xFF].as_slice()),
         (tick(), [0x03].as_slice()),
+        (power(), [0x04].as_slice()),
     ];
     for (entry, octets) in rows {
         assert_eq!(rt; Controller::encode_entry(&entry).as_slice(), octets);
@@ -340,6 +345,7 @@ fn an_entry_has_its_octets(rt: HostRuntime) {
         [0x01; 16].as_slice(),
         [0x01; 18].as_slice(),
         [0x03, 0x00].as_slice(),
+        [0x04, 0x00].as_slice(),
         [0x05; 8].as_slice(),
         [0x05; 10].as_slice(),
         [0x06, 0x00].as_slice(),
@@ -457,5 +463,272 @@ fn records_that_ask_for_nothing_are_passed_in_one_call(rt: HostRuntime) -> Resul
     assert_eq!(rt; due(&controller), None);
     assert!(rt; go(&mut controller, &command(&rt, 0x12, &[0x01, 0x01])));
     assert_eq!(rt; due(&controller), Some((Act::DiagInt, 0xFFFE)));
+    Ok(())
+}
+
+/// The trap of an alert at once, with sequence number 1 and time-stamp 0.
+const TRAP_AT_ONCE: [u8; 106] = [
+    0x30, 0x68, 0x02, 0x01, 0x00, 0x04, 0x06, 0x70, 0x75, 0x62, 0x6C, 0x69, 0x63, 0xA4, 0x5B, 0x06,
+    0x09, 0x2B, 0x06, 0x01, 0x04, 0x01, 0x98, 0x6F, 0x01, 0x01, 0x40, 0x04, 0x0A, 0x00, 0x00, 0x02,
+    0x02, 0x01, 0x06, 0x02, 0x01, 0x00, 0x43, 0x01, 0x00, 0x30, 0x3F, 0x30, 0x3D, 0x06, 0x0A, 0x2B,
+    0x06, 0x01, 0x04, 0x01, 0x98, 0x6F, 0x01, 0x01, 0x01, 0x04, 0x2F, 0x00, 0x11, 0x22, 0x33, 0x44,
+    0x55, 0x66, 0x77, 0x88, 0x99, 0xAA, 0xBB, 0xCC, 0xDD, 0xEE, 0xFF, 0x00, 0x01, 0x00, 0x00, 0x00,
+    0x00, 0xFF, 0xFF, 0x20, 0x20, 0x00, 0x20, 0x00, 0x00, 0x00, 0x00, 0x00, 0x00, 0x00, 0x00, 0x00,
+    0x00, 0x00, 0xFF, 0x00, 0x01, 0x86, 0x9F, 0x00, 0x01, 0xC1,
+];
+
+/// The place of the last octet of the sequence number in it.
+const SEQUENCE_AT_ONCE: usize = 76;
+
+/// Clear SEL with these last two octets.
+fn clear_sel(rt: &impl Abort, last_letter: u8, operation: u8) -> Entry<Item> {
+    let payload = [0x00, 0x00, 0x43, 0x4C, last_letter, operation];
+    let request = Request::read(0x0A, 0x47, &payload).expect(rt, "a request");
+    Entry::Item(Item::Command(request))
+}
+
+/// Alert Immediate to this destination of channel 1, with this operation in bits 7:6 and this string.
+fn alert_immediate(rt: &impl Abort, destination: u8, string: u8) -> Entry<Item> {
+    command(rt, 0x16, &[0x01, destination, string])
+}
+
+#[test]
+fn the_remaining_commands_are_answered(rt: HostRuntime) -> Result<(), Fail> {
+    let mut controller = alerting(&rt, rt.alloc())?;
+    // The command, and the reply to it on the same controller, row by row.
+    let rows = [
+        (command(&rt, 0x10, &[]), [0x00, 0x51, 0x3F, 0x10].as_slice()),
+        (command(&rt, 0x10, &[0x00]), [0xC7].as_slice()),
+        // nothing is logged
+        (
+            command(&rt, 0x15, &[]),
+            [0x00, 0xFF, 0xFF, 0xFF, 0xFF, 0xFF, 0xFF, 0, 0, 0, 0].as_slice(),
+        ),
+        (command(&rt, 0x15, &[0x00]), [0xC7].as_slice()),
+        // a mark of none, one of a record that isn't held, and too few octets
+        (command(&rt, 0x14, &[0x01, 0x00, 0x00]), [0x00].as_slice()),
+        (command(&rt, 0x14, &[0x01, 0x34, 0x12]), [0xCB].as_slice()),
+        (command(&rt, 0x14, &[0x00, 0x34, 0x12]), [0xCB].as_slice()),
+        (command(&rt, 0x14, &[0x01, 0x34]), [0xC7].as_slice()),
+        // the timer is set, read, disabled, read and set to 0
+        (command(&rt, 0x11, &[0x05]), [0x00, 0x05].as_slice()),
+        (command(&rt, 0x11, &[0xFF]), [0x00, 0x05].as_slice()),
+        (command(&rt, 0x11, &[0xFE]), [0x00, 0xFE].as_slice()),
+        (command(&rt, 0x11, &[0xFF]), [0x00, 0xFE].as_slice()),
+        (command(&rt, 0x11, &[0x00]), [0x00, 0x00].as_slice()),
+        (command(&rt, 0x11, &[]), [0xC7].as_slice()),
+        // the platform event form; the length; operation 11b; a string that isn't there before a destination that isn't usable; that
+        // destination on another channel, above 4, and without an address
+        (command(&rt, 0x16, &[0x01; 11]), [0x83].as_slice()),
+        (command(&rt, 0x16, &[0x01; 4]), [0xC7].as_slice()),
+        (alert_immediate(&rt, 0xC1, 0x00), [0xCC].as_slice()),
+        (command(&rt, 0x16, &[0x03, 0x01, 0x89]), [0xC9].as_slice()),
+        (command(&rt, 0x16, &[0x03, 0x01, 0x00]), [0xCB].as_slice()),
+        (alert_immediate(&rt, 0x05, 0x00), [0xCB].as_slice()),
+        (alert_immediate(&rt, 0x03, 0x88), [0xCB].as_slice()),
+        // its status, and the status forgotten
+        (alert_immediate(&rt, 0x41, 0x00), [0x00, 0x00].as_slice()),
+        (alert_immediate(&rt, 0x81, 0x00), [0x00].as_slice()),
+        // other letters, before another operation; the two operations
+        (clear_sel(&rt, 0x53, 0x01), [0xCC].as_slice()),
+        (clear_sel(&rt, 0x52, 0x01), [0xCC].as_slice()),
+        (clear_sel(&rt, 0x52, 0x00), [0x00, 0x01].as_slice()),
+        (clear_sel(&rt, 0x52, 0xAA), [0x00, 0x01].as_slice()),
+        (command(&rt, 0x99, &[]), [0xC1].as_slice()),
+    ];
+    for (entry, reply) in rows {
+        assert!(rt; go(&mut controller, &entry));
+        assert_eq!(rt;
+            controller.reply().map(|octets| octets.as_slice()),
+            Some(reply)
+        );
+    }
+    Ok(())
+}
+
+#[test]
+fn what_runs_refuses_commands(rt: HostRuntime) -> Result<(), Fail> {
+    let mut controller = alerting(&rt, rt.alloc())?;
+    assert!(rt; go(&mut controller, &event(1, 0x02, 0x52)));
+    assert!(rt; go(&mut controller, &told(Told::Done)));
+    let none_processed = [0x00, 0x00, 0xCA, 0x9A, 0x3B, 1, 0, 1, 0, 0, 0];
+    let processed = [0x00, 0x00, 0xCA, 0x9A, 0x3B, 1, 0, 1, 0, 1, 0];
+    let cleared = [0x00, 0xFF, 0xFF, 0xFF, 0xFF, 0xFF, 0xFF, 0, 0, 0, 0];
+    // The command, and the reply to it: while an alert of record 1 waits, then behind its acknowledgement.
+    let rows = [
+        (alert_immediate(&rt, 0x02, 0x00), [0x81].as_slice()),
+        (alert_immediate(&rt, 0x82, 0x00), [0x00].as_slice()),
+        (command(&rt, 0x14, &[0x01, 0x34, 0x12]), [0xD5].as_slice()),
+        (command(&rt, 0x14, &[0x00, 0x01, 0x00]), [0x00].as_slice()),
+        (clear_sel(&rt, 0x52, 0xAA), [0xD5].as_slice()),
+        (clear_sel(&rt, 0x52, 0x00), [0x00, 0x01].as_slice()),
+        (command(&rt, 0x15, &[]), none_processed.as_slice()),
+        (acknowledge(&rt, 1, 0x80, 0x20), [0x00].as_slice()),
+        (command(&rt, 0x15, &[]), processed.as_slice()),
+        // an alert at once goes on
+        (alert_immediate(&rt, 0x01, 0x00), [0x00].as_slice()),
+    ];
+    for (entry, reply) in rows {
+        assert!(rt; go(&mut controller, &entry));
+        assert_eq!(rt;
+            controller.reply().map(|octets| octets.as_slice()),
+            Some(reply)
+        );
+    }
+    assert!(rt; go(&mut controller, &told(Told::Done)));
+    let rows = [
+        (alert_immediate(&rt, 0x02, 0x00), [0x81].as_slice()),
+        (alert_immediate(&rt, 0x42, 0x00), [0x00, 0xFF].as_slice()),
+        (alert_immediate(&rt, 0x82, 0x00), [0xD5].as_slice()),
+        (clear_sel(&rt, 0x52, 0xAA), [0xD5].as_slice()),
+        // the mark isn't refused, since no record's job runs; the record is unprocessed again
+        (command(&rt, 0x14, &[0x01, 0x00, 0x00]), [0x00].as_slice()),
+        (command(&rt, 0x15, &[]), none_processed.as_slice()),
+        (command(&rt, 0x14, &[0x01, 0x01, 0x00]), [0x00].as_slice()),
+        (command(&rt, 0x15, &[]), processed.as_slice()),
+    ];
+    for (entry, reply) in rows {
+        assert!(rt; go(&mut controller, &entry));
+        assert_eq!(rt;
+            controller.reply().map(|octets| octets.as_slice()),
+            Some(reply)
+        );
+    }
+    // the other destination isn't to be acknowledged: the alert waits for its two retries, and fails behind them
+    for _ in 0..9u8 {
+        assert!(rt; go(&mut controller, &tick()));
+        if controller.next().is_some() {
+            assert!(rt; go(&mut controller, &told(Told::Failed)));
+        }
+    }
+    let rows = [
+        (alert_immediate(&rt, 0x41, 0x00), [0x00, 0x03].as_slice()),
+        (alert_immediate(&rt, 0x81, 0x00), [0x00].as_slice()),
+        (alert_immediate(&rt, 0x41, 0x00), [0x00, 0x00].as_slice()),
+        (clear_sel(&rt, 0x52, 0xAA), [0x00, 0x01].as_slice()),
+        (command(&rt, 0x15, &[]), cleared.as_slice()),
+    ];
+    for (entry, reply) in rows {
+        assert!(rt; go(&mut controller, &entry));
+        assert_eq!(rt;
+            controller.reply().map(|octets| octets.as_slice()),
+            Some(reply)
+        );
+    }
+    Ok(())
+}
+
+#[test]
+fn held_records_are_processed_when_the_hold_ends(rt: HostRuntime) -> Result<(), Fail> {
+    let mut controller = Controller::fresh(rt.alloc(), &SETTINGS)?;
+    // The entry, and the step that is due behind it.
+    let rows = [
+        // two seconds of the timer, which FFh only reads
+        (command(&rt, 0x11, &[0x02]), None),
+        (event(1, 0x02, 0x52), None),
+        (event(2, 0x02, 0x53), None),
+        (event(3, 0x02, 0x52), None),
+        (tick(), None),
+        (command(&rt, 0x11, &[0xFF]), None),
+        (tick(), Some((Act::DiagInt, 1))),
+        (told(Told::Done), Some((Act::DiagInt, 3))),
+        (told(Told::Done), None),
+        // disabled for the time being, whatever time passes, until the power is cycled
+        (command(&rt, 0x11, &[0xFE]), None),
+        (event(4, 0x02, 0x52), None),
+        (tick(), None),
+        (power(), Some((Act::DiagInt, 4))),
+        (told(Told::Done), None),
+        // or until the timer is set to 0
+        (command(&rt, 0x11, &[0xFE]), None),
+        (event(5, 0x02, 0x52), None),
+        (command(&rt, 0x11, &[0x00]), Some((Act::DiagInt, 5))),
+        (told(Told::Done), None),
+        // a startup delay of parameter 3 at the power alone, and where bit 2 of parameter 1 says so
+        (command(&rt, 0x12, &[0x03, 0x02]), None),
+        (power(), None),
+        (event(6, 0x02, 0x52), Some((Act::DiagInt, 6))),
+        (told(Told::Done), None),
+        (command(&rt, 0x12, &[0x01, 0x05]), None),
+        (power(), None),
+        (command(&rt, 0x12, &[0x03, 0x00]), None),
+        (event(7, 0x02, 0x52), None),
+        (tick(), None),
+        (tick(), Some((Act::DiagInt, 7))),
+        (told(Told::Done), None),
+        // the mark moved back makes records unprocessed again
+        (
+            command(&rt, 0x14, &[0x01, 0x05, 0x00]),
+            Some((Act::DiagInt, 6)),
+        ),
+        (told(Told::Done), Some((Act::DiagInt, 7))),
+        (told(Told::Done), None),
+    ];
+    for (entry, step) in rows {
+        assert!(rt; go(&mut controller, &entry));
+        assert_eq!(rt; due(&controller), step);
+    }
+    Ok(())
+}
+
+#[test]
+fn a_job_that_runs_keeps_its_targets_through_the_power(rt: HostRuntime) -> Result<(), Fail> {
+    let mut controller = alerting(&rt, rt.alloc())?;
+    let mut at_once = TRAP_AT_ONCE;
+    at_once[SEQUENCE_AT_ONCE] = 0x02;
+    let first = FIRST_TRAP.as_slice();
+    let at_once = at_once.as_slice();
+    // Destination 0 is volatile. The entry, and to which address which trap is due behind it.
+    let rows = [
+        (
+            set_lan(
+                &rt,
+                &[0x01, 0x13, 0x00, 0, 0, 10, 0, 0, 7, 0, 0, 0, 0, 0, 0],
+            ),
+            first,
+            None,
+        ),
+        (
+            command(&rt, 0x12, &[0x09, 0x01, 0x18, 0x10, 0x00]),
+            first,
+            None,
+        ),
+        (event(1, 0x02, 0x52), first, Some((7, true))),
+        (told(Told::Done), first, None),
+        (alert_immediate(&rt, 0x00, 0x00), at_once, Some((7, true))),
+        (told(Told::Done), at_once, None),
+        (power(), at_once, None),
+        // now that destination is none, and the record goes to the other
+        (alert_immediate(&rt, 0x00, 0x00), at_once, None),
+        (event(2, 0x02, 0x52), first, Some((10, false))),
+    ];
+    for (entry, trap, step) in rows {
+        assert!(rt; go(&mut controller, &entry));
+        assert_eq!(rt; due_trap(&controller, trap), step);
+    }
+    Ok(())
+}
+
+#[test]
+fn sequence_numbers_go_on_behind_65_535_alerts_at_once(rt: HostRuntime) -> Result<(), Fail> {
+    let mut controller = alerting(&rt, rt.alloc())?;
+    for number in 1..=65_536u32 {
+        assert!(rt; go(&mut controller, &alert_immediate(&rt, 0x02, 0x00)));
+        if number >= 65_535 {
+            let mut trap = TRAP_AT_ONCE;
+            if number == 65_535 {
+                trap[SEQUENCE_AT_ONCE - 1] = 0xFF;
+                trap[SEQUENCE_AT_ONCE] = 0xFF;
+            }
+            assert_eq!(rt; due_trap(&controller, &trap), Some((10, true)));
+        }
+        assert!(rt; go(&mut controller, &told(Told::Done)));
+        assert!(rt; controller.next().is_none());
+    }
+    assert!(rt; go(&mut controller, &alert_immediate(&rt, 0x42, 0x00)));
+    assert_eq!(rt;
+        controller.reply().map(|octets| octets.as_slice()),
+        Some([0x00, 0x01].as_slice())
+    );
     Ok(())
 }

@@ -4,6 +4,7 @@
 mod engine;
 mod entry;
 mod faults;
+mod fed;
 mod laws;
 mod machine;
 mod marks;
@@ -14,6 +15,7 @@ mod scripted;
 pub use engine::Engine;
 pub use entry::Entry;
 pub use faults::{EngineFault, MachineFault};
+pub use fed::Fed;
 pub use laws::{calls_law, lives_law};
 pub use machine::Machine;
 pub use marks::{Mark, read_mark, write_mark};

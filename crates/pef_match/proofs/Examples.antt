@@ -39,7 +39,7 @@ abbrev job_with : Tables → List ℕ → Parts
 job_with tables event = job our_sizes tables initial ports event
 
 abbrev asks_for : Option Act → Bool → ℕ → Parts
-asks_for act oem kind = record { act = act; targets = []; oem = oem; event = event_of kind }
+asks_for act oem kind = record { act = act; targets = []; oem = oem; event = Some (event_of kind) }
 
 -- all actions under the mask 3Dh: power cycle, and the OEM action beside it
 pub one_filter : job_with (tables 0x3D (filters (filter_with 0x80 0x3F) (replicate 20 0))) (event_of 0x02) ≡ asks_for (Some PowerCycle) true 0x02

@@ -33,7 +33,7 @@ act_by-same f g same =
     ∙ ap (λ b. cond (g 1) (Some PowerDown) (cond (g 3) (Some PowerCycle) (cond (g 2) (Some Reset) (cond b (Some DiagInt) None)))) (same 5)
 
 abbrev pub parts : Option Act → List Target → Bool → List ℕ → Parts
-parts act targets oem event = record { act = act; targets = targets; oem = oem; event = event }
+parts act targets oem event = record { act = act; targets = targets; oem = oem; event = Some event }
 
 pub job_whole : (t : Tables) (lan : LanTables) (ports : Ports) (filters : List (List ℕ)) (mask bits : ℕ) (event : List ℕ) → length filters ≡ 16
     → ((n : ℕ) → numbered filters n ≡ filter_at t n) → t Actions ≡ mask ∷ []

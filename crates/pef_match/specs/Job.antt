@@ -48,5 +48,5 @@ job sizes tables lan ports event = record {
   act = act_by (has_bit (asked sizes tables event));
   targets = targets_of sizes tables lan ports event;
   oem = has_bit (asked sizes tables event) 4;
-  event = event;
+  event = Some event;
 }

@@ -209,3 +209,37 @@ fn an_alert_has_all_of_its_destination(rt: HostRuntime) -> Result<(), Fail> {
     assert_eq!(rt; last.text.as_slice(), b"fan".as_slice());
     Ok(())
 }
+
+#[test]
+fn an_alert_at_once_goes_to_a_usable_destination(rt: HostRuntime) -> Result<(), Fail> {
+    let config = config_with(0x3F, &[], &[]);
+    let lan = destinations();
+    // Channel, destination and string; the last octet of the address and the first octet of the text, if there is an alert.
+    let rows = [
+        (1, 1, None, Some((9, 0))),
+        (1, 2, Some(3), Some((10, b'h'))),
+        (2, 1, Some(2), Some((11, b'f'))),
+        (2, 1, Some(0), Some((11, 0))),
+        // a type that can't be sent to, no address, no such destination, no such channel
+        (1, 3, None, None),
+        (1, 4, None, None),
+        (1, 5, None, None),
+        (3, 1, None, None),
+    ];
+    for (channel, number, string, alert) in rows {
+        let target = target_at_once(&config, &lan, &PORTS, channel, number, string);
+        let got = target
+            .as_ref()
+            .map(|target| (target.to.to.ip[3], first_of(&target.text)));
+        assert_eq!(rt; got, alert, "{channel} {number}");
+        if let Some(target) = target {
+            let job = Job::at_once(target);
+            assert!(rt; job.event().is_none());
+            assert_eq!(rt;
+                (job.act(), job.oem(), job.targets().len()),
+                (None, false, 1)
+            );
+        }
+    }
+    Ok(())
+}

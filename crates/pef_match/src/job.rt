@@ -1,5 +1,6 @@
 //! What is to be done for one event record.
-ghost use Rattle.std.specs.Prelude.{◌≡◌, ◌≤◌, length, All};
+ghost use Rattle.std.specs.Prelude.{◌≡◌, ◌≤◌, Some, length, All, option_copied};
+ghost use Rattle.pef_match.specs.AtOnce.{at_once};
 ghost use Rattle.pef_match.specs.Parts.{CanBeSent};
 
 use crate::target::Target;
@@ -17,7 +18,7 @@ pub struct Job {
     act: Option<Act>,
     targets: ArrayVec<Target, TARGETS>,
     oem: bool,
-    event: Record,
+    event: Option<Record>,
 }
 
 impl Model for Job {
@@ -37,7 +38,7 @@ impl Job {
     pub fn new(act: Option<Act>, targets: &[Target], oem: bool, event: &Record) -> Job
         requires few { length targets.now ≤ 16 }
         requires ready { All CanBeSent targets.now }
-        ensures { result ≡ record { act = act; targets = targets.now; oem = oem; event = event.now } }
+        ensures { result ≡ record { act = act; targets = targets.now; oem = oem; event = Some event.now } }
     {
         let mut held = ArrayVec::new();
         for target in targets {
@@ -47,7 +48,23 @@ impl Job {
             act,
             targets: held,
             oem,
-            event: *event,
+            event: Some(*event),
+        }
+    }
+
+    /// The job of Alert Immediate (IPMI 2.0, section 30.7): one alert, of no record. Its target has a policy of 0 to 4, a wait of 1 to
+    /// 256 seconds and at most 7 retries.
+    pub fn at_once(target: Target) -> Job
+        requires { CanBeSent target }
+        ensures { result ≡ at_once target }
+    {
+        let mut targets = ArrayVec::new();
+        targets.push(target);
+        Job {
+            act: None,
+            targets,
+            oem: false,
+            event: None,
         }
     }
 
@@ -74,10 +91,10 @@ impl Job {
         self.oem
     }
 
-    /// The record that the job is of.
-    pub fn event(&self) -> &Record
-        ensures { result.now ≡ self.now.event }
+    /// The record that the job is of; that of Alert Immediate has none.
+    pub fn event(&self) -> Option<&Record>
+        ensures { option_copied result ≡ self.now.event }
     {
-        &self.event
+        self.event.as_ref()
     }
 }

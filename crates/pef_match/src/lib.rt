@@ -4,11 +4,13 @@
 mod alarm;
 mod alerts;
 mod asked;
+mod at_once;
 mod job;
 mod laws;
 mod selecting;
 mod target;
 
+pub use at_once::target_at_once;
 pub use job::Job;
 pub use laws::targets_law;
 pub use selecting::job_of;

@@ -116,7 +116,8 @@ fn one_act_by_priority_and_the_oem_action(rt: HostRuntime) -> Result<(), Fail> {
             "{mask} {first:?} {second:?}"
         );
         assert!(rt; job.targets().is_empty());
-        assert_eq!(rt; job.event().write(), EVENT);
+        let event = job.event().expect(&rt, "a record");
+        assert_eq!(rt; event.write(), EVENT);
     }
     Ok(())
 }

@@ -23,6 +23,9 @@ pub enum Call {
     /// A datagram that is sent.
     #[error("sending a datagram")]
     Send,
+    /// A datagram that is waited for.
+    #[error("waiting for a datagram")]
+    Receive,
     /// A read of a source.
     #[error("reading it")]
     Read,

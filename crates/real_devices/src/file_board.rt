@@ -5,7 +5,7 @@ use crate::held_file::HeldFile;
 use crate::plant::Plant;
 use crate::sender::Sender;
 use board_core::{Board, DiskFailed, Step, Told};
-use std::net::Net;
+use std::net::{Net, UdpSocket};
 use std::os::unix::fs::FileExt;
 
 /// A state file that is held and kept open. Actions go to the plant's file beside it, and datagrams out by UDP.
@@ -34,6 +34,26 @@ impl<'a, R: Net> FileBoard<'a, R> {
             state,
             plant,
             sender: Sender::new(),
+            disk: Faults::new(),
+            issue: Faults::new(),
+        }
+    }
+
+    /// The same, and datagrams go out from this socket, which isn't connected.
+    pub fn sending_from(
+        rt: &'a R,
+        state: HeldFile,
+        plant: Plant,
+        socket: UdpSocket,
+    ) -> FileBoard<'a, R>
+        ensures disk_faults { (board_view result).disk_faults ≡ 0 }
+        ensures issue_faults { (board_view result).issue_faults ≡ 0 }
+    {
+        FileBoard {
+            rt,
+            state,
+            plant,
+            sender: Sender::over(socket),
             disk: Faults::new(),
             issue: Faults::new(),
         }

@@ -1,4 +1,4 @@
-//! The devices that the program runs on: a state file with its plant, a file that is read, and standard output.
+//! The devices that the program runs on: a state file with its plant, a file that is read, a feed by UDP, and standard output.
 #![tactic(auto)]
 
 mod failure;
@@ -9,9 +9,11 @@ mod file_source;
 mod held_file;
 mod lines;
 mod plant;
+mod seconds;
 mod sender;
 mod standard_streams;
 mod std_sink;
+mod udp_feed;
 
 pub use failure::{Call, Failure};
 pub use file_board::FileBoard;
@@ -21,3 +23,4 @@ pub use held_file::{HeldFile, HoldFault};
 pub use plant::Plant;
 pub use standard_streams::StandardStreams;
 pub use std_sink::StdSink;
+pub use udp_feed::UdpFeed;

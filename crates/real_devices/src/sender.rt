@@ -3,10 +3,11 @@ use board_core::{Address, Octets};
 use std::io;
 use std::net::{IpAddr, Ipv4Addr, Net, SocketAddrV4, UdpSocket};
 
-/// What sends datagrams, each from the one address of this system that leads to its receiver, at a port that the system
+/// What sends datagrams, from a socket that it is given, or each from the one address of this system that leads to its receiver, at a port that the system
 /// chooses. The socket is kept for the next datagram that goes out from the same address.
 #[derive(Drop)]
 pub struct Sender {
+    given: Option<UdpSocket>,
     bound: Option<Bound>,
 }
 
@@ -19,13 +20,28 @@ struct Bound {
 impl Sender {
     /// A sender that has sent nothing, and has no socket.
     pub fn new() -> Sender {
-        Sender { bound: None }
+        Sender {
+            given: None,
+            bound: None,
+        }
+    }
+
+    /// A sender that sends each datagram from this socket, which isn't connected.
+    pub fn over(socket: UdpSocket) -> Sender {
+        Sender {
+            given: Some(socket),
+            bound: None,
+        }
     }
 
     /// Sends the octets as one datagram.
     pub fn send<R: Net>(&mut self, rt: &R, to: &Address, octets: &Octets) -> io::Result<()> {
         let [a, b, c, d] = to.ip;
         let to = SocketAddrV4::new(Ipv4Addr::new(a, b, c, d), to.port);
+        if let Some(socket) = &self.given {
+            socket.send_to(octets.as_slice(), to)?;
+            return Ok(());
+        }
         let source = source_of(rt, to)?;
         let is_bound = self
             .bound

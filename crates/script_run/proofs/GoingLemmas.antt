@@ -297,6 +297,12 @@ module _ {I M : Type 0} (k : Kind I M) where
     };
   }
 
+  -- what is left behind two runs is what is left behind the second
+  pub goes_then_rest : {old mid new : World I M} {items more : List I} {stop : Option StepStop} (first : Goes k old mid items None) (second : Goes k mid new more stop) (tells : IsTrue new.board.tells) (Z : List ℕ) (H : List (Entry I))
+      (holds : Holds k.rules k.view Z H old.board old.engine) → (G : List (Entry I)) × (next : Holds k.rules k.view Z G mid.board mid.engine) × (((goes_then first second).went tells Z H holds).rest ≡ (second.went tells Z G next).rest)
+  unfolding goes_then went_then
+  goes_then_rest first second tells Z H holds = let p = first.went (second.counts.board.tells tells) Z H holds in (H ++ p.entries, (p.came (λ e. cc e)).holds, refl)
+
   -- one entry is stored, and the sink took its line or a part
   pub goes_stored : {old new : World I M} {failed : Type 0} (e : Entry I) (result : Result Unit StepStop) → Agrees k.rules (k.view old.engine.machine) → (k.view old.engine.machine).allowed e
       → GoesOn k.rules (k.view old.engine.machine) (k.view new.engine.machine) e

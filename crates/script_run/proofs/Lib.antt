@@ -1,12 +1,12 @@
-mod Shared
-mod GoingLemmas
+pub mod Shared
+pub mod GoingLemmas
 mod LineLemmas
-mod ScriptsLemmas
+pub mod ScriptsLemmas
 mod TakesLemmas
 mod PlayLemmas
-mod TopLemmas
+pub mod TopLemmas
 pub mod EndLemmas
-mod PerformLemmas
+pub mod PerformLemmas
 mod Shelf
 mod InMemory
 mod ShelfRoom

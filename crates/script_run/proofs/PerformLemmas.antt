@@ -24,49 +24,49 @@ use Rattle.script_run.proofs.GoingLemmas.{counts_then, counts_as}
 use Rattle.script_run.proofs.TopLemmas.{run_keeps, open_keeps, answers_at_once, answers_of, moments_all, to_stop, to_end, answer, formatted_of}
 
 -- how the opening of a file ended
-at_once : {I M : Type 0} (k : Kind I M) (Z : List ℕ) (H : List (Entry I)) (f : EngineFault) → MayStop k.rules Z H f → MayEndAtOnce k Z H (open_ending f)
+pub at_once : {I M : Type 0} (k : Kind I M) (Z : List ℕ) (H : List (Entry I)) (f : EngineFault) → MayStop k.rules Z H f → MayEndAtOnce k Z H (open_ending f)
 at_once k Z H fault.NotFormatted may = absurd may
 at_once k Z H (fault.Corrupt at) may = absurd may
 at_once k Z H fault.DiskFault may = tt
 at_once k Z H fault.Full may = may
 at_once k Z H (fault.Memory error) may = tt
 
-may_refuse : {I M : Type 0} (k : Kind I M) (file : List ℕ) (f : EngineFault) → HasOpenCause k.rules file f → MayRefuse k file (open_ending f)
+pub may_refuse : {I M : Type 0} (k : Kind I M) (file : List ℕ) (f : EngineFault) → HasOpenCause k.rules file f → MayRefuse k file (open_ending f)
 may_refuse k file fault.NotFormatted cause = tt
 may_refuse k file (fault.Corrupt at) cause = tt
 may_refuse k file fault.DiskFault cause = tt
 may_refuse k file fault.Full cause = cause
 may_refuse k file (fault.Memory error) cause = tt
 
-not_input : (f : EngineFault) → open_ending f ≡ Input → ⊥
+pub not_input : (f : EngineFault) → open_ending f ≡ Input → ⊥
 not_input fault.NotFormatted e = cc e
 not_input (fault.Corrupt at) e = cc e
 not_input fault.DiskFault e = cc e
 not_input fault.Full e = cc e
 not_input (fault.Memory error) e = cc e
 
-not_output : (f : EngineFault) → open_ending f ≡ Output → ⊥
+pub not_output : (f : EngineFault) → open_ending f ≡ Output → ⊥
 not_output fault.NotFormatted e = cc e
 not_output (fault.Corrupt at) e = cc e
 not_output fault.DiskFault e = cc e
 not_output fault.Full e = cc e
 not_output (fault.Memory error) e = cc e
 
-disk_at : (f : EngineFault) → open_ending f ≡ Disk → f ≡ fault.DiskFault
+pub disk_at : (f : EngineFault) → open_ending f ≡ Disk → f ≡ fault.DiskFault
 disk_at fault.NotFormatted e = absurd (cc e)
 disk_at (fault.Corrupt at) e = absurd (cc e)
 disk_at fault.DiskFault e = refl
 disk_at fault.Full e = absurd (cc e)
 disk_at (fault.Memory error) e = absurd (cc e)
 
-refused_at : {I M : Type 0} (k : Kind I M) (Z : List ℕ) (H : List (Entry I)) (f : EngineFault) → MayStop k.rules Z H f → open_ending f ≡ Unformatted → ⊥
+pub refused_at : {I M : Type 0} (k : Kind I M) (Z : List ℕ) (H : List (Entry I)) (f : EngineFault) → MayStop k.rules Z H f → open_ending f ≡ Unformatted → ⊥
 refused_at k Z H fault.NotFormatted may e = may
 refused_at k Z H (fault.Corrupt at) may e = may
 refused_at k Z H fault.DiskFault may e = cc e
 refused_at k Z H fault.Full may e = cc e
 refused_at k Z H (fault.Memory error) may e = cc e
 
-open_end : (f : EngineFault) → IsRunEnd (open_ending f)
+pub open_end : (f : EngineFault) → IsRunEnd (open_ending f)
 open_end fault.NotFormatted = tt
 open_end (fault.Corrupt at) = tt
 open_end fault.DiskFault = tt

@@ -76,7 +76,7 @@ module _ {I M : Type 0} (k : Kind I M) (Z : List ℕ) (H : List (Entry I)) where
       along = ⊎_elim inl (λ s. inr (syncs_map old new (LeavesPrefix k.rules Z H old.sent []) (LeavesPrefix k.rules Z H old.sent items) (λ c p. more_items k Z H old [] items c p) s)) moments
 
   -- what was taken is the beginning of the run without a crash
-  begins_run : (items rest : List I) (K : List (Entry I)) → LawfulFrom k.rules Z H K → entry_items K ++ rest ≡ items → IsPrefixOf K (crash_free_run k.rules Z H items (entry_tolds K))
+  pub begins_run : (items rest : List I) (K : List (Entry I)) → LawfulFrom k.rules Z H K → entry_items K ++ rest ≡ items → IsPrefixOf K (crash_free_run k.rules Z H items (entry_tolds K))
   begins_run items rest K lawful taken =
       (crash_free_run k.rules Z (H ++ K) rest [], sym (ap (λ i. crash_free_run k.rules Z H i (entry_tolds K)) (sym taken) ∙ ap (λ t. crash_free_run k.rules Z H (entry_items K ++ rest) t) (sym (append-nil (entry_tolds K))) ∙ run_goes_on k.rules Z H K rest [] lawful))
 

@@ -43,8 +43,8 @@ fn perform<M: Scripted, B: Board, S: Source, K: Sink>(
     }
 }
 
-// How a run ends whose file isn't opened.
-fn ending_at_opening(fault: EngineFault) -> Ending
+/// How a run ends whose file isn't opened.
+pub fn ending_at_opening(fault: EngineFault) -> Ending
     ensures { result ≡ open_ending fault }
 {
     match fault {
@@ -69,8 +69,8 @@ fn ending_of(played: Result<u32, ScriptStop>) -> Ending
     }
 }
 
-// How a run ends that a step stopped.
-fn ending_of_step(stop: StepStop) -> Ending
+/// How a run ends that a step stopped.
+pub fn ending_of_step(stop: StepStop) -> Ending
     ensures { result ≡ step_ending stop }
 {
     match stop {

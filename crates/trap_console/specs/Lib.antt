@@ -11,3 +11,4 @@ pub mod Entries
 pub mod Firsts
 pub mod Acks
 pub mod Listing
+pub mod Arriving

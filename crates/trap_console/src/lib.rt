@@ -1,6 +1,7 @@
 //! The console of platform event traps as a machine over its history: a ledger that has each trap once, and acknowledgements.
 #![tactic(auto)]
 
+mod arriving;
 mod console;
 mod entries;
 mod heard;

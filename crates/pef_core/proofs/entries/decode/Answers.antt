@@ -1,7 +1,7 @@
 use Rattle.std.proofs.Common.{subst}
 use Rattle.pef_engine.specs.Marks.{ReadsMark}
 use Rattle.pef_core.specs.Entries.{ReadsEvent, ReadsCommand}
-use Rattle.pef_core.proofs.Decoding.{decodes_tick, decodes_mark, decodes_none}
+use Rattle.pef_core.proofs.Decoding.{decodes_tick, decodes_power, decodes_mark, decodes_none}
 use Rattle.pef_core.proofs.entries.decode.Goals as goal
 
 pub returns-in-Some-read_mark : goal.returns-in-Some-read_mark
@@ -9,14 +9,17 @@ returns-in-Some-read_mark c =
     let octets = c.args.octets.now in
     let no_event = subst (ReadsEvent octets) c.in_default.is c.event_in.ensures in
     let no_command = subst (ReadsCommand octets) c.in_default-command_in.is c.command_in.ensures in
-    rw c.marked.ensures (decodes_mark octets no_event no_command (c.is_tick.ensures.other c.if-is_tick.false) c.in-Some-read_mark.mark (subst (ReadsMark octets) c.in-Some-read_mark.is c.read_mark.ensures))
+    rw c.marked.ensures (decodes_mark octets no_event no_command (c.is_tag.ensures.other c.if-is_tag.false) (c.is_tag-2.ensures.other c.if-is_tag-2.false) c.in-Some-read_mark.mark (subst (ReadsMark octets) c.in-Some-read_mark.is c.read_mark.ensures))
 
-pub returns-then-is_tick : goal.returns-then-is_tick
-returns-then-is_tick c = decodes_tick c.args.octets.now (c.is_tick.ensures.tick c.if-is_tick.true)
+pub returns-then-is_tag : goal.returns-then-is_tag
+returns-then-is_tag c = decodes_tick c.args.octets.now (c.is_tag.ensures.alone c.if-is_tag.true)
+
+pub returns-then-is_tag-2 : goal.returns-then-is_tag-2
+returns-then-is_tag-2 c = decodes_power c.args.octets.now (c.is_tag-2.ensures.alone c.if-is_tag-2.true)
 
 pub returns-in-None : goal.returns-in-None
 returns-in-None c =
     let octets = c.args.octets.now in
     let no_event = subst (ReadsEvent octets) c.in_default.is c.event_in.ensures in
     let no_command = subst (ReadsCommand octets) c.in_default-command_in.is c.command_in.ensures in
-    decodes_none octets no_event no_command (c.is_tick.ensures.other c.if-is_tick.false) (subst (ReadsMark octets) c.in-None.is c.read_mark.ensures)
+    decodes_none octets no_event no_command (c.is_tag.ensures.other c.if-is_tag.false) (c.is_tag-2.ensures.other c.if-is_tag-2.false) (subst (ReadsMark octets) c.in-None.is c.read_mark.ensures)

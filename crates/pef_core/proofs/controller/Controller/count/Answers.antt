@@ -1,4 +1,4 @@
-use Rattle.std.proofs.Common.{sym, ◌∙◌, ap}
+use Rattle.std.proofs.Common.{Some, sym, ◌∙◌, ap}
 use Rattle.pef_core.specs.Values.{stamp_at}
 use Rattle.pef_core.specs.After.{now_with, counted_now}
 use Rattle.pef_core.specs.View.{shown}
@@ -12,6 +12,6 @@ returns-in-Ended-clause-values c =
     let stamp = stamp_at self.ticks in
     c.begin.ensures.values
     ∙ ap (λ n. record v { now = n }) (
-    begins_alike c.in-Ended.work stamp c.in-Ended.turn c.take.new.self v.now
+    begins_alike c.in-Ended.work stamp c.in-Ended.turn (Some c.in-Ended.success) c.take.new.self v.now
     ∙ ap (λ p. now_with stamp p v.now) (sym c.in-Ended.is ∙ c.after.ensures.progress)
     ∙ ap (λ o. counted_now c.args.counts.now stamp o v.now) (sym c.in-Some.is ∙ c.take.ensures.value))

@@ -15,3 +15,7 @@ returns-in-Command-clause-values c =
 pub returns-in-Tick-clause-values : goal.returns-in-Tick-clause-values
 returns-in-Tick-clause-values c =
     subst (λ item. shown c.tick.new.self ≡ with_deed (item_deed (shown c.args.self.now) item) (shown c.args.self.now)) (sym c.in-Tick.is) c.tick.ensures.values
+
+pub returns-in-Power-clause-values : goal.returns-in-Power-clause-values
+returns-in-Power-clause-values c =
+    subst (λ item. shown c.power.new.self ≡ with_deed (item_deed (shown c.args.self.now) item) (shown c.args.self.now)) (sym c.in-Power.is) c.power.ensures.values

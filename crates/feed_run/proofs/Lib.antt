@@ -1,0 +1,3 @@
+mod ArrivingLemmas
+mod FeedingLemmas
+mod EndLemmas

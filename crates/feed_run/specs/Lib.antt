@@ -1,0 +1,4 @@
+pub mod Arriving
+pub mod Feeding
+pub mod Performing
+pub mod Top
