@@ -1,0 +1,3 @@
+pub mod Layouts
+mod Short
+mod Examples

@@ -41,16 +41,19 @@ abbrev pub completion : Result Asking ℕ → ℕ
 completion (Ok command) = 0x00
 completion (Err code) = code
 
--- the answer: the addresses exchanged, network function 05h, the request's sequence octet and command, and the completion code
-abbrev pub answer_to : LanMessage → LanMessage
-answer_to message = record {
-  to = message.sender;
+-- a response: the addresses exchanged, network function 05h, the request's sequence octet and command, and a completion code
+abbrev pub response_to : LanMessage → ℕ → LanMessage
+response_to request code = record {
+  to = request.sender;
   netfn_lun = 0x14;
-  sender = message.to;
-  seq_lun = message.seq_lun;
-  cmd = message.cmd;
-  payload = completion (asked_by message) ∷ [];
+  sender = request.to;
+  seq_lun = request.seq_lun;
+  cmd = request.cmd;
+  payload = code ∷ [];
 }
+
+abbrev pub answer_to : LanMessage → LanMessage
+answer_to request = response_to request (completion (asked_by request))
 
 abbrev pub ack_in : Asking → Option PetAck
 ack_in (Acknowledge ack) = Some ack

@@ -6,7 +6,7 @@ ghost use Rattle.asf_rmcp.specs.declared.packet.Packet.TheVariants.{Ping};
 ghost use Rattle.asf_rmcp.specs.Columns.{lan_in};
 ghost use Rattle.asf_rmcp.specs.Writing.{lan_frame};
 ghost use Rattle.frame_answers.specs.Asking.{asks_pong, asks_command};
-ghost use Rattle.frame_answers.specs.Answers.{kind_of as kind_in, pong_replies, answer_to, asked_by, completion, acknowledged, answered as answer_of};
+ghost use Rattle.frame_answers.specs.Answers.{kind_of as kind_in, pong_replies, response_to, asked_by, completion, acknowledged, answered as answer_of};
 
 use crate::answer::Answered;
 use crate::kind::FrameKind;
@@ -50,7 +50,7 @@ pub fn answered(from: Address, octets: &[u8]) -> Answered
         let (code, ack) = carried_out(&message);
         return Answered {
             kind: FrameKind::Command,
-            replies: answer(from, &message, code),
+            replies: response(from, &message, code),
             ack,
         };
     }
@@ -94,10 +94,9 @@ fn carried_out(message: &LanMessage) -> (u8, Option<PetAck>)
     }
 }
 
-/// The answer to a request: its addresses are exchanged, and network function 05h stands in bits 7:2.
-fn answer(from: Address, request: &LanMessage, code: u8) -> Replies
-    requires { code ≡ completion (asked_by request.now) }
-    ensures { result ≡ Datagram from (lan_frame (answer_to request.now)) ∷ [] }
+/// The response to a request: its addresses are exchanged, and network function 05h stands in bits 7:2.
+fn response(from: Address, request: &LanMessage, code: u8) -> Replies
+    ensures { result ≡ Datagram from (lan_frame (response_to request.now code)) ∷ [] }
 {
     let mut payload = Bytes::new();
     payload.push(code);

@@ -11,7 +11,7 @@ mod replies;
 pub use answer::Answered;
 pub use answering::{answered, kind_of};
 pub use kind::FrameKind;
-pub use laws::few_replies;
+pub use laws::{by_layout, few_replies};
 pub use replies::Replies;
 
 #[cfg(test)]
