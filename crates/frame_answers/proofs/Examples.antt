@@ -1,7 +1,6 @@
 -- The definition on frames, octet by octet: pings, the request PET Acknowledge, and frames that have no effect.
 use Rattle.std.proofs.Common.{◌≡◌, ℕ, List, [], ◌∷◌, ◌++◌, Some, None, refl}
 use Rattle.board_core.specs.declared.step.Address.{Address}
-use Rattle.board_core.specs.declared.step.Step.{Step}
 use Rattle.board_core.specs.declared.step.Step.TheVariants.{Datagram}
 use Rattle.frame_answers.specs.declared.kind.FrameKind.TheVariants.{Ping, Command, Nothing}
 use Rattle.frame_answers.specs.Answers.{Answered, answered}

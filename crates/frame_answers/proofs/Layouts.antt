@@ -16,7 +16,7 @@ use Rattle.asf_rmcp.proofs.Answered.{packet_exact, lan_exact}
 use Rattle.frame_answers.specs.declared.kind.FrameKind.TheVariants.{Ping as PingKind, Command}
 use Rattle.frame_answers.specs.Asking.{good, is_presence_ping, is_pet_acknowledge, asks_pong, asks_command}
 use Rattle.frame_answers.specs.Answers.{Answered, answered, pong_replies, answer_to, asked_by, acknowledged}
-use Rattle.frame_answers.specs.Laws.{IsByLayout, AreByLayout}
+use Rattle.frame_answers.specs.Laws.{AreByLayout}
 
 -- a frame with a LAN message is of class 07h, so it is no ping
 no_pong_of_message : (octets : List ℕ) (message : LanMessage) → IsLan octets message → asks_pong octets ≡ false

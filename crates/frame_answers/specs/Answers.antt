@@ -5,7 +5,7 @@ use Rattle.board_core.specs.declared.step.Address.{Address}
 use Rattle.board_core.specs.declared.step.Step.{Step}
 use Rattle.board_core.specs.declared.step.Step.TheVariants.{Datagram}
 use Rattle.pet_body.specs.declared.ack.PetAck.{PetAck}
-use Rattle.pef_commands.specs.declared.command.Command.{Command as Asking}
+use Rattle.pef_commands.specs.declared.command.Command.{Command as PefCommand}
 use Rattle.pef_commands.specs.declared.command.Command.TheVariants.{Acknowledge}
 use Rattle.pef_commands.specs.Parsing.{parsed}
 use Rattle.asf_rmcp.specs.declared.packet.Packet.{Packet}
@@ -33,11 +33,11 @@ pong_replies from (Pong sequence tag entities) = []
 pong_replies from (Ipmi sequence) = []
 
 -- the command of a request PET Acknowledge, by the rule of every request with network function 04h and command 17h
-abbrev pub asked_by : LanMessage → Result Asking ℕ
+abbrev pub asked_by : LanMessage → Result PefCommand ℕ
 asked_by message = parsed (record { netfn = 0x04; cmd = 0x17; payload = message.payload })
 
 -- completion code 00h where the command is carried out, else the code that refuses it
-abbrev pub completion : Result Asking ℕ → ℕ
+abbrev pub completion : Result PefCommand ℕ → ℕ
 completion (Ok command) = 0x00
 completion (Err code) = code
 
@@ -55,12 +55,12 @@ response_to request code = record {
 abbrev pub answer_to : LanMessage → LanMessage
 answer_to request = response_to request (completion (asked_by request))
 
-abbrev pub ack_in : Asking → Option PetAck
+abbrev pub ack_in : PefCommand → Option PetAck
 ack_in (Acknowledge ack) = Some ack
 ack_in _ = None
 
 -- the acknowledgement that is carried out
-abbrev pub acknowledged : Result Asking ℕ → Option PetAck
+abbrev pub acknowledged : Result PefCommand ℕ → Option PetAck
 acknowledged (Ok command) = ack_in command
 acknowledged (Err code) = None
 

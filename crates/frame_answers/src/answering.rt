@@ -1,11 +1,8 @@
 //! Frames are answered.
-ghost use Rattle.std.specs.Prelude.{◌≡◌, ◌∷◌, [], IfSome};
-ghost use Rattle.std.specs.Option.{is_some};
+ghost use Rattle.std.specs.Prelude.{◌≡◌, ◌∷◌, []};
 ghost use Rattle.board_core.specs.declared.step.Step.TheVariants.{Datagram};
 ghost use Rattle.asf_rmcp.specs.declared.packet.Packet.TheVariants.{Ping};
-ghost use Rattle.asf_rmcp.specs.Columns.{lan_in};
 ghost use Rattle.asf_rmcp.specs.Writing.{lan_frame};
-ghost use Rattle.frame_answers.specs.Asking.{asks_pong, asks_command};
 ghost use Rattle.frame_answers.specs.Answers.{kind_of as kind_in, pong_replies, response_to, asked_by, completion, acknowledged, answered as answer_of};
 
 use crate::answer::Answered;
