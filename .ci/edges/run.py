@@ -11,6 +11,7 @@ import alerts
 import console
 import descriptors
 import faults
+import live
 import locks
 import plant
 import reasons
@@ -31,7 +32,7 @@ def main(program):
             return Call(program, f"{folder}/{count}")
 
         wrong = 0
-        for part in (descriptors, locks, plant, same_file, faults, reasons, console, alerts):
+        for part in (descriptors, locks, plant, same_file, faults, reasons, console, alerts, live):
             try:
                 part.check(make)
             except Wrong as fault:
@@ -39,7 +40,7 @@ def main(program):
                 print(f"{part.__name__}: {fault}", file=sys.stderr)
     if wrong:
         sys.exit(f"{wrong} of the edges aren't as they must be")
-    print("pef_cli: closed descriptors, locks, the plant's file, faults of the system, a console and alerts are right")
+    print("pef_cli: closed descriptors, locks, the plant's file, faults of the system, a console, alerts and what comes from the network are right")
 
 
 main(str(pathlib.Path(sys.argv[1]).resolve()))

@@ -1,7 +1,8 @@
--- What `receive` promises of acknowledgements, beside what every run does.
+-- What `receive` and `listen` promise of acknowledgements, beside what every run does.
 use Rattle.std.specs.Prelude.{◌≡◌, ◌⊎◌, ℕ, List, ◌++◌, Option, Some, IsTrue}
 use Rattle.board_core.specs.declared.step.Step.{Step}
 use Rattle.board_core.specs.declared.step.Sent.{Sent}
+use Rattle.board_core.specs.Feed.{Arrivals}
 use Rattle.board_core.specs.Board.{BoardView, CrashState, NeverSynced, Only, SyncsFirst, steps_of}
 use Rattle.pef_engine.specs.declared.entry.Entry.{Entry}
 use Rattle.pef_engine.specs.Rules.{Lawful, Stands}
@@ -41,3 +42,8 @@ pub record KeepsAcks (Z : List ℕ) (old new : BoardView) : Type 0 where
 abbrev pub AcksAreKept : Option (List ℕ) → BoardView → BoardView → Type 0
 AcksAreKept source old new =
     IsTrue new.tells → (Z : List ℕ) (H : List (Entry Item)) (text : List ℕ) → Lawful console_rules Z H → Stands console_rules Z H old.octets → source ≡ Some text → KeepsAcks Z old new
+
+-- the same of what a feed tells
+abbrev pub AcksAreKeptOver : Option Arrivals → BoardView → BoardView → Type 0
+AcksAreKeptOver feed old new =
+    IsTrue new.tells → (Z : List ℕ) (H : List (Entry Item)) (before : Arrivals) → Lawful console_rules Z H → Stands console_rules Z H old.octets → feed ≡ Some before → KeepsAcks Z old new

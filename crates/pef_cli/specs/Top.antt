@@ -1,7 +1,7 @@
 -- What a call of the program answers to its words.
 use Rattle.std.specs.Prelude.{◌≡◌, ℕ, List, Some, None}
 use Rattle.pef_cli.specs.declared.form.Form.{Form}
-use Rattle.pef_cli.specs.Words.{paths_of, two_files, one_file}
+use Rattle.pef_cli.specs.Words.{paths_of, two_files, one_file, over_feed}
 
 -- unknown command or wrong arguments
 abbrev pub IsNoForm : List (List ℕ) → Type 0
@@ -14,3 +14,7 @@ IsOfForm form words = paths_of words ≡ Some (two_files form)
 -- a call of this form, which has the state file alone
 abbrev pub IsOfLoneForm : Form → List (List ℕ) → Type 0
 IsOfLoneForm form words = paths_of words ≡ Some (one_file form)
+
+-- a call of this form, which has the state file and a feed, for so many arrivals
+abbrev pub IsOfFedForm : Form → ℕ → List (List ℕ) → Type 0
+IsOfFedForm form arrivals words = paths_of words ≡ Some (over_feed form arrivals)

@@ -10,6 +10,8 @@ pub enum Form {
     Run,
     /// `receive STATE CAPTURE` takes the datagrams of a capture, behind those taken where it was begun before.
     Receive,
+    /// `listen STATE ADDRESS ARRIVALS` takes the datagrams that arrive at an address into a console's ledger.
+    Listen,
     /// `list STATE` shows the rows of a console's ledger.
     List,
 }
@@ -28,17 +30,18 @@ pub struct Paths {
     pub form: Form,
     /// The place of the state file's path.
     pub state: usize,
-    /// The place of the other path: 0 where the form has none.
+    /// The place of the other path, or of the address: 0 where the form has neither.
     pub second: usize,
-    /// The number of arrivals to wait for: 0, since no form of today waits for any.
+    /// The number of arrivals to wait for: 0 where the form has no feed.
     pub arrivals: u64,
 }
 
 /// The forms as a person types them, behind the program's name.
-pub const FORMS: [&str; 5] = [
+pub const FORMS: [&str; 6] = [
     "init STATE SETTINGS",
     "init-console STATE SETTINGS",
     "run STATE SCRIPT",
     "receive STATE CAPTURE",
+    "listen STATE ADDRESS ARRIVALS",
     "list STATE",
 ];

@@ -1,11 +1,13 @@
 //! Platform event filtering from the command line.
 #![tactic(auto)]
 
+mod arrivals;
 mod asked;
 mod form;
 mod init_fault;
 mod initializing;
 mod kinds;
+mod listening;
 mod listing;
 mod no_start;
 mod opening;

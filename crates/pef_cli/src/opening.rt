@@ -1,8 +1,9 @@
-//! Opening the files that a form's words name.
+//! Opening the files and the socket that a form's words name.
 use crate::asked::Asked;
 use crate::no_start::NoStart;
 use crate::state_reader::StateReader;
-use real_devices::{FileBoard, FileSource, HeldFile, Plant};
+use board_core::Address;
+use real_devices::{FileBoard, FileSource, HeldFile, Plant, UdpFeed};
 
 /// Opens the other file, then the state file with its plant. A form that formats creates the state file where it is missing. Nothing is
 /// read or written.
@@ -25,6 +26,19 @@ pub fn open_files<'r, 'a>(
     }
     let plant = open_plant(rt, state, &file)?;
     Ok((FileBoard::new(rt, file, plant), source))
+}
+
+/// Takes the address, then opens the state file with its plant. Steps go out from sockets of their own. Nothing is read or written.
+pub fn open_feed<'r, 'a>(
+    rt: &'r HostRuntime,
+    asked: &Asked<'a>,
+    at: &Address,
+) -> Result<(FileBoard<'r, HostRuntime>, UdpFeed<'r, HostRuntime>), NoStart<'a>> {
+    let feed = UdpFeed::bind(rt, at).map_err(|error| NoStart::of(asked.second, error))?;
+    let state = asked.state;
+    let file = HeldFile::open(rt, state).map_err(|fault| NoStart::of_state(state, fault))?;
+    let plant = open_plant(rt, state, &file)?;
+    Ok((FileBoard::new(rt, file, plant), feed))
 }
 
 /// Opens the state file alone, to be read. Nothing is read yet.

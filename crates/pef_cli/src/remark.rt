@@ -6,7 +6,7 @@ use crate::unformatted::{Unformatted, why_unformatted};
 use board_core::Board;
 use pef_core::Controller;
 use read_ahead::ReadAhead;
-use real_devices::{Failure, FileBoard, FileSource, StdSink};
+use real_devices::{Failure, FileBoard, StdSink};
 use std::alloc::Global;
 use std::io::Write;
 use thiserror::Error;
@@ -43,17 +43,18 @@ struct Failures {
     output: Option<Failure>,
 }
 
-/// Says on standard error what is to be said behind a call: why it ended with its status, and why a step was told as failed.
+/// Says on standard error what is to be said behind a call: why it ended with its status, and why a step was told as failed. `input` is
+/// the first failure of its source or feed.
 pub fn tell<W: Write + Drop>(
     rt: &HostRuntime,
     asked: &Asked<'_>,
     status: u8,
     board: &mut ReadAhead<FileBoard<'_, HostRuntime>>,
-    source: &FileSource,
+    input: Option<Failure>,
     out: &StdSink<W>,
 ) {
     let failures = Failures {
-        input: source.failure(),
+        input,
         disk: board.board().disk_failure(),
         output: out.failure(),
     };
@@ -104,7 +105,7 @@ fn unformatted<'a, B: Board>(
 ) -> Option<Remark<'a>> {
     let why = match asked.form {
         Form::Init | Form::Run => why_unformatted::<Controller, B>(alloc, board, "controller"),
-        Form::InitConsole | Form::Receive | Form::List => {
+        Form::InitConsole | Form::Receive | Form::Listen | Form::List => {
             why_unformatted::<Console, B>(alloc, board, "console")
         }
     };
@@ -119,14 +120,14 @@ fn settings<'a>(asked: &Asked<'a>) -> Option<Remark<'a>> {
     match asked.form {
         Form::Init => Some(Remark::Controller(asked.second)),
         Form::InitConsole => Some(Remark::Console(asked.second)),
-        Form::Run | Form::Receive | Form::List => None,
+        Form::Run | Form::Receive | Form::Listen | Form::List => None,
     }
 }
 
 // How large a file may be.
 fn full<'a>(asked: &Asked<'a>) -> Remark<'a> {
     match asked.form {
-        Form::Receive | Form::List => Remark::FullConsole(asked.state),
+        Form::Receive | Form::Listen | Form::List => Remark::FullConsole(asked.state),
         _ => Remark::Full(asked.state),
     }
 }

@@ -2,13 +2,14 @@
 use crate::asked::Asked;
 use crate::form::Form;
 use crate::no_start::NoStart;
-use crate::opening::{open_files, open_to_read};
+use crate::opening::{open_feed, open_files, open_to_read};
 use crate::program::top;
 use crate::remark::{tell, tell_of_list};
 use crate::words::paths;
-use board_core::{MemBoard, MemSource};
+use board_core::{MemBoard, MemFeed, MemSource};
 use read_ahead::ReadAhead;
 use real_devices::{StandardStreams, StdSink};
+use script_text::address;
 use std::io::ErrorKind;
 use std::{env, io};
 
@@ -71,14 +72,16 @@ fn call_without_files<'a>(rt: &HostRuntime, words: &[String]) -> Result<u8, NoSt
     let alloc = rt.alloc();
     let mut board = MemBoard::new(alloc, &[], &[], &[])?;
     let mut source = MemSource::new(alloc, &[], &[])?;
+    let mut feed = MemFeed::new(alloc, &[], &[])?;
     let mut out = StdSink::new(io::writer(rt));
-    Ok(top(alloc, words, &mut board, &mut source, &mut out))
+    Ok(top(alloc, words, &mut board, &mut source, &mut feed, &mut out))
 }
 
-// A call on the files that the words name.
+// A call on the files and the address that the words name.
 fn call<'a>(rt: &HostRuntime, words: &[String], asked: &Asked<'a>) -> Result<u8, NoStart<'a>> {
     match asked.form {
         Form::List => call_to_read(rt, words, asked),
+        Form::Listen => call_over_feed(rt, words, asked),
         _ => call_on_files(rt, words, asked),
     }
 }
@@ -92,8 +95,9 @@ fn call_to_read<'a>(
     let alloc = rt.alloc();
     let mut board = ReadAhead::new(alloc, open_to_read(rt, asked)?)?;
     let mut source = MemSource::new(alloc, &[], &[])?;
+    let mut feed = MemFeed::new(alloc, &[], &[])?;
     let mut out = StdSink::new(io::writer(rt));
-    let status = top(alloc, words, &mut board, &mut source, &mut out);
+    let status = top(alloc, words, &mut board, &mut source, &mut feed, &mut out);
     tell_of_list(rt, asked, status, &mut board, &out);
     Ok(status)
 }
@@ -108,8 +112,29 @@ fn call_on_files<'a>(
     let (board, mut source) = open_files(rt, asked)?;
     // a journal is read entry by entry, and each entry is short
     let mut board = ReadAhead::new(alloc, board)?;
+    let mut feed = MemFeed::new(alloc, &[], &[])?;
     let mut out = StdSink::new(io::writer(rt));
-    let status = top(alloc, words, &mut board, &mut source, &mut out);
-    tell(rt, asked, status, &mut board, &source, &out);
+    let status = top(alloc, words, &mut board, &mut source, &mut feed, &mut out);
+    tell(rt, asked, status, &mut board, source.failure(), &out);
+    Ok(status)
+}
+
+// A call that works on a state file with what arrives at an address.
+fn call_over_feed<'a>(
+    rt: &HostRuntime,
+    words: &[String],
+    asked: &Asked<'a>,
+) -> Result<u8, NoStart<'a>> {
+    let Some(at) = address(asked.second.as_bytes()) else {
+        // such words are no form
+        return call_without_files(rt, words);
+    };
+    let alloc = rt.alloc();
+    let (board, mut feed) = open_feed(rt, asked, &at)?;
+    let mut board = ReadAhead::new(alloc, board)?;
+    let mut source = MemSource::new(alloc, &[], &[])?;
+    let mut out = StdSink::new(io::writer(rt));
+    let status = top(alloc, words, &mut board, &mut source, &mut feed, &mut out);
+    tell(rt, asked, status, &mut board, feed.failure(), &out);
     Ok(status)
 }

@@ -12,11 +12,12 @@ mod full;
 mod full_console;
 mod init;
 mod list;
+mod listen;
 mod memory;
 mod run;
 
 use crate::program::top;
-use board_core::{Act, MemBoard, MemSink, MemSource, Sent, Step};
+use board_core::{Act, MemBoard, MemFeed, MemSink, MemSource, Sent, Step};
 use std::alloc::{AllocError, Global};
 use std::process::Abort;
 
@@ -100,6 +101,11 @@ struct Case<'a> {
     steps: &'a [u16],
 }
 
+// The feed of a form that has none.
+fn no_feed(alloc: Global) -> Result<MemFeed, AllocError> {
+    MemFeed::new(alloc, &[], &[])
+}
+
 fn words_in(alloc: Global, words: &[&str]) -> Result<Vec<String>, AllocError> {
     let mut all = Vec::new(alloc);
     for word in words {
@@ -133,8 +139,16 @@ fn check(rt: &impl Abort, alloc: Global, words: &[&str], case: &Case<'_>) {
     let mut source = MemSource::new(alloc, case.text.as_bytes(), case.failing_source).expect(
         rt, "memory",
     );
+    let mut feed = no_feed(alloc).expect(rt, "memory");
     let mut out = MemSink::new(alloc, case.failing_sink);
-    let status = top(alloc, words.as_slice(), &mut board, &mut source, &mut out);
+    let status = top(
+        alloc,
+        words.as_slice(),
+        &mut board,
+        &mut source,
+        &mut feed,
+        &mut out,
+    );
     assert_eq!(rt; status, case.status, "{what}: status");
     assert_eq!(rt; out.written(), case.written.as_bytes(), "{what}: output");
     assert!(rt; board.octets() == case.after, "{what}: file");

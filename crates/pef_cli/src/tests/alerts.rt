@@ -1,5 +1,5 @@
 // Alerts: which traps go out, in which order and how often, what is said of them, and the file behind them.
-use super::{CLOSED, DONE, FAILED, words_in};
+use super::{CLOSED, DONE, FAILED, no_feed, words_in};
 use crate::program::top;
 use board_core::{MemBoard, MemSink, MemSource, Sent, Step};
 use std::alloc::{AllocError, Global};
@@ -553,8 +553,16 @@ fn file_of(
 fn live(rt: &impl Abort, alloc: Global, board: &mut MemBoard, script: &str) -> (u8, MemSink) {
     let words = words_in(alloc, &["run", "state", "script"]).expect(rt, "memory");
     let mut source = MemSource::new(alloc, script.as_bytes(), &[]).expect(rt, "memory");
+    let mut feed = no_feed(alloc).expect(rt, "memory");
     let mut out = MemSink::new(alloc, None);
-    let status = top(alloc, words.as_slice(), board, &mut source, &mut out);
+    let status = top(
+        alloc,
+        words.as_slice(),
+        board,
+        &mut source,
+        &mut feed,
+        &mut out,
+    );
     (status, out)
 }
 

@@ -1,5 +1,5 @@
 // Scripts with commands: replies, tables that change between events, and a crash at each moment of such a script.
-use super::{MADE, words_in};
+use super::{MADE, no_feed, words_in};
 use crate::program::top;
 use board_core::{Act, MemBoard, MemSink, MemSource, Step};
 use std::alloc::Global;
@@ -39,8 +39,16 @@ const ACTS: [(Act, u16); 6] = [
 fn live(rt: &impl Abort, alloc: Global, board: &mut MemBoard, script: &str) -> (u8, MemSink) {
     let words = words_in(alloc, &["run", "state", "script"]).expect(rt, "memory");
     let mut source = MemSource::new(alloc, script.as_bytes(), &[]).expect(rt, "memory");
+    let mut feed = no_feed(alloc).expect(rt, "memory");
     let mut out = MemSink::new(alloc, None);
-    let status = top(alloc, words.as_slice(), board, &mut source, &mut out);
+    let status = top(
+        alloc,
+        words.as_slice(),
+        board,
+        &mut source,
+        &mut feed,
+        &mut out,
+    );
     (status, out)
 }
 

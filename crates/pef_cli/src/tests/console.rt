@@ -3,7 +3,7 @@ use super::captures::{
     ACK, GUID, SEQUENCE, TRAP, capture_of, changed, console_behind, console_with, datagram_entry,
     opened,
 };
-use super::{CLOSED, CONSOLE, Case, DONE, FAILED, MADE, SETTINGS, check, words_in};
+use super::{CLOSED, CONSOLE, Case, DONE, FAILED, MADE, SETTINGS, check, no_feed, words_in};
 use crate::program::top;
 use board_core::{MemBoard, MemSink, MemSource, Step};
 use std::test::Fail;
@@ -278,8 +278,16 @@ fn an_acknowledgement_goes_to_the_port_of_the_settings(rt: HostRuntime) -> Resul
     let capture = capture_of(alloc, &[&TRAP])?;
     let mut board = MemBoard::new(alloc, &[0xa5, 2, 2, 0, 0x98, 2, 0], &[], &[])?;
     let mut source = MemSource::new(alloc, capture.as_bytes(), &[])?;
+    let mut feed = no_feed(alloc)?;
     let mut out = MemSink::new(alloc, None);
-    let status = top(alloc, words.as_slice(), &mut board, &mut source, &mut out);
+    let status = top(
+        alloc,
+        words.as_slice(),
+        &mut board,
+        &mut source,
+        &mut feed,
+        &mut out,
+    );
     assert_eq!(rt; status, 0);
     assert_eq!(rt; board.issued().len(), 1);
     for sent in board.issued() {

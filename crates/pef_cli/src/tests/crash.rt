@@ -1,6 +1,7 @@
 // Lives of one file, each crashed at each of its moments, and the life behind them.
 use super::{
-    CLOSED, DONE, EVENT, MADE, OPENED, SAID, SCRIPT, event, file_with, records_of, words_in,
+    CLOSED, DONE, EVENT, MADE, OPENED, SAID, SCRIPT, event, file_with, no_feed, records_of,
+    words_in,
 };
 use crate::program::top;
 use board_core::{MemBoard, MemSink, MemSource};
@@ -17,8 +18,16 @@ const MOMENTS: u64 = 1_000;
 fn live(rt: &impl Abort, alloc: Global, board: &mut MemBoard, script: &str) -> (u8, MemSink) {
     let words = words_in(alloc, &["run", "state", "script"]).expect(rt, "memory");
     let mut source = MemSource::new(alloc, script.as_bytes(), &[]).expect(rt, "memory");
+    let mut feed = no_feed(alloc).expect(rt, "memory");
     let mut out = MemSink::new(alloc, None);
-    let status = top(alloc, words.as_slice(), board, &mut source, &mut out);
+    let status = top(
+        alloc,
+        words.as_slice(),
+        board,
+        &mut source,
+        &mut feed,
+        &mut out,
+    );
     (status, out)
 }
 

@@ -2,7 +2,7 @@
 use super::captures::{
     ACKED, SEQUENCE, TRAP, capture_of, changed, console_with, datagram_entry, opened,
 };
-use super::{CLOSED, CONSOLE, DONE, words_in};
+use super::{CLOSED, CONSOLE, DONE, no_feed, words_in};
 use crate::program::top;
 use board_core::{MemBoard, MemSink, MemSource, Sent, Step};
 use pef_engine::Engine;
@@ -20,12 +20,20 @@ const MOMENTS: u64 = 1_000;
 fn receive(alloc: Global, board: &mut MemBoard, capture: &str) -> Result<u8, AllocError> {
     let words = words_in(alloc, &["receive", "state", "capture"])?;
     let mut source = MemSource::new(alloc, capture.as_bytes(), &[])?;
+    let mut feed = no_feed(alloc)?;
     let mut out = MemSink::new(alloc, None);
-    Ok(top(alloc, words.as_slice(), board, &mut source, &mut out))
+    Ok(top(
+        alloc,
+        words.as_slice(),
+        board,
+        &mut source,
+        &mut feed,
+        &mut out,
+    ))
 }
 
 // The sequence numbers that were acknowledged, in order, but for repeats that stand right beside their twins.
-fn acked(alloc: Global, sent: &[Sent]) -> Result<Vec<u8>, AllocError> {
+pub fn acked(alloc: Global, sent: &[Sent]) -> Result<Vec<u8>, AllocError> {
     let mut numbers = Vec::new(alloc);
     for one in sent {
         let number = match &one.step {
@@ -40,7 +48,11 @@ fn acked(alloc: Global, sent: &[Sent]) -> Result<Vec<u8>, AllocError> {
 }
 
 // The sequence numbers of the rows that the file has.
-fn rows_in(rt: &impl Abort, alloc: Global, board: &mut MemBoard) -> Result<Vec<u8>, AllocError> {
+pub fn rows_in(
+    rt: &impl Abort,
+    alloc: Global,
+    board: &mut MemBoard,
+) -> Result<Vec<u8>, AllocError> {
     let mut numbers = Vec::new(alloc);
     let Ok(engine) = Engine::<Console>::open(alloc, board) else {
         assert!(rt; false, "a crash leaves a console's file");

@@ -1,7 +1,7 @@
 // The forms `receive` and `list` on a ledger that has all of its 65,536 rows. `rt test` runs it in a few seconds; the checks of
 // `rt try --test` make it too slow for the time that a test has there.
 use super::captures::{SEQUENCE, TRAP, changed, datagram_entry};
-use super::{CLOSED, DONE, words_in};
+use super::{CLOSED, DONE, no_feed, words_in};
 use crate::program::top;
 use board_core::{MemBoard, MemSink, MemSource};
 use std::alloc::{AllocError, Global};
@@ -52,9 +52,17 @@ fn a_full_ledger_knows_its_keys_and_takes_no_more(rt: HostRuntime) -> Result<(),
     let capture = capture(alloc)?;
     let mut board = MemBoard::new(alloc, file.as_slice(), &[], &[])?;
     let mut source = MemSource::new(alloc, capture.as_bytes(), &[])?;
+    let mut feed = no_feed(alloc)?;
     let mut out = MemSink::new(alloc, None);
     let words = words_in(alloc, &["receive", "state", "capture"])?;
-    let status = top(alloc, words.as_slice(), &mut board, &mut source, &mut out);
+    let status = top(
+        alloc,
+        words.as_slice(),
+        &mut board,
+        &mut source,
+        &mut feed,
+        &mut out,
+    );
     assert_eq!(rt; status, 9);
     let said =
         "open 00000002 2\nagain 2\nsend 10.0.0.2:623 0600ff07000000000000000000132010d0810417010080edef062020305210200f done\nfull\n";
@@ -62,7 +70,14 @@ fn a_full_ledger_knows_its_keys_and_takes_no_more(rt: HostRuntime) -> Result<(),
     assert_eq!(rt; board.issued().len(), 1);
     let words = words_in(alloc, &["list", "state"])?;
     let mut rows = MemSink::new(alloc, None);
-    let status = top(alloc, words.as_slice(), &mut board, &mut source, &mut rows);
+    let status = top(
+        alloc,
+        words.as_slice(),
+        &mut board,
+        &mut source,
+        &mut feed,
+        &mut rows,
+    );
     assert_eq!(rt; status, 0);
     assert!(rt; rows.written().ends_with(b" 521020 c1\nok 65536\n"));
     assert_eq!(rt;

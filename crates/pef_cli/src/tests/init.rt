@@ -209,7 +209,11 @@ fn other_words_are_no_form(rt: HostRuntime) {
         second: 2,
         arrivals: 0,
     };
-    let rows: [(&[&str], Option<Paths>); 18] = [
+    let listening = |arrivals| Paths {
+        arrivals,
+        ..places(Form::Listen)
+    };
+    let rows: [(&[&str], Option<Paths>); 43] = [
         (
             &["init", "state", "settings.toml"],
             Some(places(Form::Init)),
@@ -243,6 +247,43 @@ fn other_words_are_no_form(rt: HostRuntime) {
         (&["receive", "state"], None),
         (&["--help"], None),
         (&["live", "state", "127.0.0.1:623", "1"], None),
+        (
+            &["listen", "state", "127.0.0.1:623", "1"],
+            Some(listening(1)),
+        ),
+        (
+            &["listen", "state", "0.0.0.0:162", "1000000000"],
+            Some(listening(1000000000)),
+        ),
+        (
+            &["listen", "state", "255.255.255.255:65535", "0000000007"],
+            Some(listening(7)),
+        ),
+        (
+            &["listen", "state", "000.00.0.001:00000", "0000000010"],
+            Some(listening(10)),
+        ),
+        (&["listen", "state", "127.0.0.1:623", "0"], None),
+        (&["listen", "state", "127.0.0.1:623", "1000000001"], None),
+        (&["listen", "state", "127.0.0.1:623", "9999999999"], None),
+        (&["listen", "state", "127.0.0.1:623", "00000000001"], None),
+        (&["listen", "state", "127.0.0.1:623", ""], None),
+        (&["listen", "state", "127.0.0.1:623", "+1"], None),
+        (&["listen", "state", "127.0.0.1:623", "1 "], None),
+        (&["listen", "state", "127.0.0.1:623", "0x1"], None),
+        (&["listen", "state", "127.0.0.1:623", "1.0"], None),
+        (&["listen", "state", "127.0.0.1", "1"], None),
+        (&["listen", "state", "127.0.0.1:", "1"], None),
+        (&["listen", "state", "127.0.0.1:65536", "1"], None),
+        (&["listen", "state", "127.0.0.1:000623", "1"], None),
+        (&["listen", "state", "127.0.0.256:623", "1"], None),
+        (&["listen", "state", "127.0.0.0001:623", "1"], None),
+        (&["listen", "state", "127.0.1:623", "1"], None),
+        (&["listen", "state", "localhost:623", "1"], None),
+        (&["listen", "state", "", "1"], None),
+        (&["listen", "state", "127.0.0.1:623"], None),
+        (&["listen", "state", "127.0.0.1:623", "1", "more"], None),
+        (&["receive", "state", "127.0.0.1:623", "1"], None),
     ];
     for (words, form) in rows {
         let all = words_in(alloc, words).expect(&rt, "memory");

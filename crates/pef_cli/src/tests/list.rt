@@ -2,7 +2,7 @@
 use super::captures::{
     GUID, SEQUENCE, TRAP, changed, console_behind, console_with, datagram_entry, opened,
 };
-use super::{CLOSED, CONSOLE, Case, DONE, MADE, check, words_in};
+use super::{CLOSED, CONSOLE, Case, DONE, MADE, check, no_feed, words_in};
 use crate::program::top;
 use board_core::{MemBoard, MemSink, MemSource};
 use std::test::Fail;
@@ -143,9 +143,17 @@ fn list_writes_nothing_at_any_moment(rt: HostRuntime) -> Result<(), Fail> {
     let words = words_in(alloc, &LIST)?;
     let mut board = MemBoard::new(alloc, whole.as_slice(), &[], &[])?;
     let mut source = MemSource::new(alloc, &[], &[])?;
+    let mut feed = no_feed(alloc)?;
     let mut out = MemSink::new(alloc, None);
     assert_eq!(rt;
-        top(alloc, words.as_slice(), &mut board, &mut source, &mut out),
+        top(
+            alloc,
+            words.as_slice(),
+            &mut board,
+            &mut source,
+            &mut feed,
+            &mut out
+        ),
         0
     );
     for torn in [0x00, 0x37, 0xa5, 0xff] {
