@@ -1,3 +1,3 @@
 pub mod Layouts
-mod Short
+pub mod Short
 mod Examples
