@@ -1,5 +1,5 @@
 // Frames that ask for nothing: they are told, and kept, and nothing is sent.
-use super::{CLOSED, MADE, words_in};
+use super::{CLOSED, MADE, no_feed, words_in};
 use crate::program::top;
 use board_core::{MemBoard, MemSink, MemSource};
 use script_text::octets_up_to;
@@ -34,7 +34,10 @@ const FRAMES: [(&str, &str); 22] = [
         "a short length",
         "0600ff07000000000000000000062010d081041701",
     ),
-    ("a message that ends early", "0600ff070000000000000000001320"),
+    (
+        "a message that ends early",
+        "0600ff070000000000000000001320",
+    ),
     (
         "a message and two octets",
         "0600ff07000000000000000000132010d0810417010080edef062020305210200f0000",
@@ -106,8 +109,16 @@ fn frames_that_ask_for_nothing_have_no_effect(rt: HostRuntime) {
     let file = file_of(alloc).expect(&rt, "memory");
     let mut board = MemBoard::new(alloc, &MADE, &[], &[]).expect(&rt, "memory");
     let mut source = MemSource::new(alloc, script.as_bytes(), &[]).expect(&rt, "memory");
+    let mut feed = no_feed(alloc).expect(&rt, "memory");
     let mut out = MemSink::new(alloc, None);
-    let status = top(alloc, words.as_slice(), &mut board, &mut source, &mut out);
+    let status = top(
+        alloc,
+        words.as_slice(),
+        &mut board,
+        &mut source,
+        &mut feed,
+        &mut out,
+    );
     assert_eq!(rt; status, 0);
     assert_eq!(rt; out.written(), said.as_bytes());
     assert!(rt; board.octets() == file.as_slice(), "file");
