@@ -10,4 +10,6 @@ pub mod Fitting
 pub mod Promises
 pub mod Retries
 pub mod Bound
+pub mod Shown
+pub mod ShownExamples
 pub mod Decoding
