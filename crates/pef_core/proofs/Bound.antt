@@ -168,6 +168,9 @@ all_within_from Z past (entry ∷ H) w = all_within_from Z (deed (values Z past)
 within : (Z : List ℕ) (H : List (Entry Item)) → Within (length (log (past_of Z H))) (course Z (past_of Z H))
 within Z H = all_within_from Z [] H (record { mark = omega arith; runs = tt })
 
+pub mark_within : (c : Controller) (Z : List ℕ) (H : List (Entry Item)) → ShowsController c Z H → c.mark ≤ length c.log
+mark_within c Z H shows = subst (λ v. v.now.mark ≤ length v.records) (sym shows.values_are) (within Z H).mark
+
 -- a part of a job has 18 steps before it at most
 part_is_small : (j : Parts) (part : Part) → length j.targets ≤ 16 → IsOpenPart j.targets part → part_left j part ≤ 18
 part_is_small j (Acting act) few is_open = omega (arith, few, one_at_most j.oem)

@@ -11,4 +11,6 @@ pub mod Promises
 pub mod Retries
 pub mod Bound
 pub mod Few
+pub mod Shown
+pub mod ShownExamples
 pub mod Decoding

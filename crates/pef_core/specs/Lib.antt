@@ -9,6 +9,7 @@ pub mod Replies
 pub mod Deeds
 pub mod Report
 pub mod Histories
+pub mod Shown
 pub mod After
 pub mod Left
 pub mod View

@@ -213,8 +213,8 @@ impl Controller {
         self.log.get(self.log.len().saturating_sub(1))
     }
 
-    // The record that was processed last.
-    fn processed(&self) -> Option<&Record>
+    /// The record that was processed last.
+    pub(crate) fn processed(&self) -> Option<&Record>
         ensures { option_copied result ≡ processed_of self.now.log self.now.mark }
     {
         if self.mark == 0 {

@@ -33,16 +33,16 @@ pub struct Controller {
     pub(crate) lan: Lan,
     pub(crate) log: Log,
     /// The seconds so far, modulo 2 to the power of 32.
-    ticks: u32,
+    pub(crate) ticks: u32,
     /// The seconds left of the startup delay.
-    delay: u8,
+    pub(crate) delay: u8,
     pub(crate) postpone: Postpone,
     /// How many records at the front of the log are processed.
     pub(crate) mark: usize,
     /// The ID of the record that software says it processed last, 0000h for none.
     pub(crate) software: u16,
     /// The sequence number of the next alert, 1 to 65535.
-    sequence: u16,
+    pub(crate) sequence: u16,
     /// The status of Alert Immediate: 00h none, 01h ended with success, 03h failed, FFh pending.
     pub(crate) status: u8,
     /// What runs: the job of the record behind the mark, or an alert at once.

@@ -19,6 +19,8 @@ mod replying;
 mod report;
 mod running;
 mod settings;
+mod showing;
+mod summary;
 mod turn;
 mod turns;
 mod work;
@@ -28,6 +30,7 @@ pub use item::Item;
 pub use laws::{hold_law, idle_law, job_law, order_law, retry_law, sequence_law, start_law};
 pub use note::Note;
 pub use postpone::Postpone;
+pub use summary::Summary;
 
 #[cfg(test)]
 mod tests;

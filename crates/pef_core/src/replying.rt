@@ -85,8 +85,8 @@ fn stamp_octets(event: Option<&Record>) -> [u8; 4]
     }
 }
 
-// The ID of a record, and this one where there is none.
-fn id_or(none: u16, event: Option<&Record>) -> u16
+/// The ID of a record, and this one where there is none.
+pub(crate) fn id_or(none: u16, event: Option<&Record>) -> u16
     ensures { result ≡ id_or_of none (option_copied event.entry) }
 {
     match event {

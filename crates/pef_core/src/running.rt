@@ -67,6 +67,13 @@ impl Running {
         let _ = &self.part;
     }
 
+    /// The ID of the record whose job this is; 0000h for an alert at once.
+    pub(crate) fn id(&self) -> u16
+        ensures { result ≡ id_of self.now.work.job.event }
+    {
+        id_of(self.work.job.event())
+    }
+
     /// Whether this is the job of a record, and no alert at once.
     pub(crate) fn is_job(&self) -> bool
         ensures { result ≡ is_some self.now.work.number }
@@ -78,7 +85,7 @@ impl Running {
     pub(crate) fn step(&self, own: &Own) -> Option<Step>
         ensures { result ≡ part_step own.now self.now.work self.now.part }
     {
-        let id = id_of(self.work.job.event());
+        let id = self.id();
         match &self.part {
             Part::Acting(kind) => Some(Step::Act { kind: *kind, id }),
             Part::Alerting(alert) => alert_step(own, &self.work, alert),

@@ -1,4 +1,6 @@
 //! Worked rows: what comes of one item after another, and which octets are an entry.
+mod showing;
+
 use super::*;
 use board_core::{Act, Step, Told};
 use event_record::{LogFault, RecordFault};
