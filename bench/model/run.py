@@ -1,8 +1,8 @@
 #!/usr/bin/env python3
-"""Compares the proved program with a slow model of a controller, on random scripts of events, commands, ticks and power cycles.
+"""Compares the proved program with a slow model of a controller, on random scripts of events, commands, frames, ticks and power cycles.
 
 It builds nothing: it takes crates/pef_cli/out/pef_cli, which ./demo at the top proves and builds. The model below is written from the
-standard (IPMI 2.0, chapters 17, 23, 30 and 32; PET 1.0; RFC 1157) and docs/COMMANDS.md, bit by bit, and knows nothing of the program's
+standard (IPMI 2.0, chapters 13, 17, 23, 30 and 32; ASF 2.0; PET 1.0; RFC 1157) and docs/COMMANDS.md, bit by bit, and knows nothing of the program's
 code. Alerts go to loopback alone, where nobody need receive them; one to port 0 fails. Each round makes
 a state file from random settings, after some that are refused, and compares the refusal and the file's octets with the model's. Then it
 runs a few scripts on it, and compares the report of each run and the plant's file with those of the model. A script is sometimes called
@@ -63,6 +63,31 @@ def ber(tag, octets):
 def number(tag, value):
     """A number in the fewest octets of which the first has bit 7 clear."""
     return ber(tag, value.to_bytes(value.bit_length() // 8 + 1, "big"))
+
+
+def is_ping(octets):
+    """A presence ping (ASF 2.0, section 3.2.4.3)."""
+    front = octets[:1] + octets[3:9] + octets[11:]
+    return len(octets) == 12 and front == bytes.fromhex("0606000011be8000")
+
+
+def summed(octets):
+    """The octets with their checksum behind them."""
+    return octets + bytes([-sum(octets) % 256])
+
+
+def lan(message):
+    """A frame with an IPMI message outside a session (IPMI 2.0, section 13.6)."""
+    return bytes.fromhex("0600ff07") + bytes(9) + bytes([len(message)]) + message
+
+
+def message_in(octets):
+    """The message of such a frame, without what is behind it; one octet may be."""
+    size = octets[13] if len(octets) > 13 else 0
+    message = octets[14 : 14 + size]
+    good = 7 <= size <= 71 and len(octets) in (14 + size, 15 + size)
+    good = good and octets[0] == 6 and octets[3] == 7 and not any(octets[4:13])
+    return message if good and sum(message[:3]) % 256 == sum(message[3:]) % 256 == 0 else None
 
 
 def walk(stops):
@@ -494,6 +519,25 @@ class Controller:
             return b"\0\x11\x04"
         return b"\0\x11" + bytes([place]) + self.lan[channel, number, place]
 
+    def frame(self, said, sender, octets):
+        """Answers a frame; the trap that it acknowledges."""
+        heard, answers, kind = None, [], "none"
+        message = message_in(octets)
+        if is_ping(octets):
+            kind = "ping"
+            if octets[2] != 0xFF:
+                answers.append(bytes([6, 0, octets[2], 0x86]))
+            answers.append(bytes.fromhex("0600ff06000011be40") + octets[9:10] + bytes.fromhex("0010000011be0000000081") + bytes(7))
+        elif message and message[:2] == b"\x20\x10" and message[5] == 0x17:
+            kind = "command"
+            heard = message[6:-1] if len(message) == 19 else None
+            code = 0xC7 if heard is None else 0x00
+            answers.append(lan(summed(bytes([message[3], 0x14])) + summed(b"\x20" + message[4:6] + bytes([code]))))
+        said.append(f"frame {kind}")
+        for answer in answers:
+            said.append(f"send {sender} {answer.hex()} {'failed' if sender.endswith(':0') else 'done'}")
+        return heard
+
     def take(self, item):
         """The report lines of one item and of the jobs behind it."""
         said, heard = [], None
@@ -508,6 +552,8 @@ class Controller:
         elif item[0] == "power":
             self.power()
             said.append("power")
+        elif item[0] == "frame":
+            heard = self.frame(said, item[1], item[2])
         else:
             reply = self.command(item[1], item[2], item[3])
             said.append(f"reply {reply.hex()}")
@@ -521,6 +567,8 @@ def line(item):
         return f"event {item[1].hex()}"
     if item[0] in ("tick", "power"):
         return item[0]
+    if item[0] == "frame":
+        return f"frame {item[1]} {item[2].hex() or '-'}"
     return f"cmd {item[1]:02x} {item[2]:02x} {item[3].hex() or '-'}"
 
 
@@ -688,8 +736,23 @@ def random_acknowledgement(some, model):
     return ("cmd", 4, 0x17, octets if some.random() < 0.95 else octets[: some.randrange(12)])
 
 
+def random_frame(some, model):
+    """Often one that is answered, or nearly so."""
+    ping = bytes([6, some.choice([0, 9]), some.choice([0xFF, 0xFF, 5]), 6]) + bytes.fromhex("000011be80") + bytes([some.randrange(256), 0, 0])
+    payload = random_acknowledgement(some, model)[3]
+    request = summed(b"\x20\x10") + summed(bytes([0x81, some.randrange(256), some.choice([0x17, 0x17, 0x17, 0x16])]) + payload)
+    octets = some.choice([ping, lan(request), lan(request), lan(request) + b"\0", random_octets(some, some.choice([0, 4, 12, 33, 300]))])
+    if octets and some.random() < 0.2:
+        place = some.randrange(len(octets))
+        octets = octets[:place] + bytes([octets[place] ^ some.choice([1, 2, 0x80])]) + octets[place + 1 :]
+    return ("frame", f"127.0.0.{some.randrange(1, 200)}:{some.choice([0, 40000, 40001])}", octets)
+
+
 def random_item(some, model):
     kind = some.random()
+    if kind < 0.08:
+        return random_frame(some, model)
+    kind = (kind - 0.08) / 0.92
     if kind < 0.25:
         return ("event", random_event(some))
     if kind < 0.48:

@@ -7,6 +7,7 @@ mod console;
 mod crash;
 mod crash_console;
 mod fault;
+mod frames;
 mod full;
 mod full_console;
 mod init;

@@ -1,12 +1,12 @@
 -- How many steps are left at most.
-use Rattle.std.proofs.Common.{◌≡◌, ◌⊎◌, inl, inr, ℕ, ◌+◌, ◌-◌, ◌*◌, ◌<◌, ◌≤◌, Bool, true, false, cond, List, [], ◌∷◌, ◌++◌, length, take, drop, Option, Some, None, refl, sym, ◌∙◌, ap, subst, arith, length-append, length-drop}
+use Rattle.std.proofs.Common.{◌≡◌, ◌⊎◌, inl, inr, ℕ, ◌+◌, ◌-◌, ◌*◌, ◌<◌, ◌≤◌, Bool, true, false, cond, List, [], ◌∷◌, length, drop, Option, Some, None, refl, sym, ◌∙◌, ap, subst, arith, length-append, length-drop}
 use Rattle.std.specs.Prelude.{⊤, not, ◌&&◌, ◌==◌, is_some}
+use Rattle.std.proofs.lemmas.Bool.{ltb-false}
 use Rattle.std.proofs.lemmas.List.Quantifiers.{position-Some}
+use Rattle.lan_dest.specs.Attempts.{sends}
 use Rattle.event_record.specs.Fields.{record_id}
 use Rattle.event_record.specs.Log.{place_in}
-use Rattle.pef_config.specs.Places.{our_sizes}
 use Rattle.pef_match.specs.AtOnce.{at_once}
-use Rattle.pef_match.specs.Job.{job}
 use Rattle.pef_match.specs.Parts.{Parts}
 use Rattle.pef_match.specs.declared.target.Target.{Target}
 use Rattle.pef_match.proofs.Sets.{all_within}
@@ -15,20 +15,23 @@ use Rattle.board_core.specs.declared.step.Act.{Act}
 use Rattle.pef_core.specs.declared.controller.Controller.{Controller}
 use Rattle.pef_core.specs.declared.counts.Counts.{Counts}
 use Rattle.pef_core.specs.declared.item.Item.{Item}
+use Rattle.pef_core.specs.declared.own.Own.{Own}
 use Rattle.pef_core.specs.declared.part.Part.{Part}
 use Rattle.pef_core.specs.declared.part.Part.TheVariants.{Acting, Alerting, Calling}
 use Rattle.pef_core.specs.declared.turn.Turn.{Turn}
+use Rattle.pef_core.specs.declared.work.Work.{Work}
+use Rattle.pef_core.specs.Histories.{is_due, trap_step, part_step, running_step}
 use Rattle.pef_core.specs.declared.turn.Turn.TheVariants.{ToAct, ToAlert, ToCall}
 use Rattle.pef_core.specs.Settings.{ports_of}
-use Rattle.pef_core.specs.Past.{Effect, Unchanged, SetPef, SetLan, Acked, Armed, Marked, SoftwareMarked, Cleared, Sends, StatusCleared, Deed, Logged, Dropped, Replied, Passed, Ticked, Powered, WasTold, effect_of, cleared_by, records_with, log, pef, lan_tables, delay, postpone, ticks, counts_of}
-use Rattle.pef_core.specs.Undertaking.{Undertaking, is_running, turn_of, cut_of}
+use Rattle.pef_core.specs.Past.{Effect, Unchanged, SetPef, SetLan, Acked, Armed, Marked, SoftwareMarked, Cleared, Sends, StatusCleared, Deed, Logged, Dropped, Replied, Framed, Passed, Ticked, Powered, WasTold, ReplySent, effect_of, cleared_by, records_with, log, pef, lan_tables, delay, postpone, ticks, counts_of}
+use Rattle.pef_core.specs.Undertaking.{Undertaking, is_running, turn_of, cut_of, target_at}
 use Rattle.pef_core.specs.Running.{Running, IsOpenPart}
 use Rattle.pef_core.specs.Course.{Course, Force, force, begun, drawn_by, is_busy, mark_behind, counted_by, counted, moved_by, number_at, number_of, with_effect, moved, may_begin, begin_jobs, next_job, course}
 use Rattle.pef_core.specs.Values.{work_in, part_in, running_at, running, values}
-use Rattle.pef_core.specs.Deeds.{deed, past_behind, past_of, standing}
-use Rattle.pef_core.specs.Left.{oem_left, part_left, now_left, left}
+use Rattle.pef_core.specs.Deeds.{deed, past_behind, past_of}
+use Rattle.pef_core.specs.Left.{part_left, now_left}
 use Rattle.pef_core.specs.Promises.{BeganFor, BeganAtOnce, AllBegan}
-use Rattle.pef_core.specs.View.{shown, ShowsController}
+use Rattle.pef_core.specs.View.{ShowsController}
 use Rattle.pef_core.proofs.Fitting.{NoJob, Fits, fits}
 use Rattle.pef_core.proofs.Promises.{all_began, act_before_all}
 
@@ -95,10 +98,12 @@ log_grows : (d : Deed) (records : List (List ℕ)) → length (cleared_by (effec
 log_grows (Logged event) records = omega (arith, length-append records (event ∷ []))
 log_grows (Dropped why) records = omega arith
 log_grows (Replied octets effect) records = omega arith
+log_grows (Framed replies ack) records = omega arith
 log_grows Passed records = omega arith
 log_grows Ticked records = omega arith
 log_grows Powered records = omega arith
 log_grows (WasTold told) records = omega arith
+log_grows ReplySent records = omega arith
 
 -- what counts for the undertaking that runs
 counted_within : (counts : Counts) (records : ℕ) (us : List Undertaking) (c : Course) → c.undertakings ≡ us → c.mark ≤ records → RunsWithin us c.mark records → Within records (counted counts us c)
@@ -189,11 +194,35 @@ runs now u r (Some turn) is some =
     let same : record { work = work_in u; part = part_in now u (cut_of u) turn } ≡ r = cc some in
     record { turn = turn; its_turn = is; number = ap (λ x. x.work.number) (sym same); job = ap (λ x. x.work.job) (sym same); part = ap (λ x. x.part) (sym same) }
 
+-- the steps of an alert at once; a record's are among its 18
+abbrev pub extra_by : Option ℕ → Running → ℕ
+extra_by None r = part_left r.work.job r.part
+extra_by (Some number) r = 0
+
+abbrev pub extra : Running → ℕ
+extra r = extra_by r.work.number r
+
+-- of what runs so many are left, beside 18 of each record behind it
+pub record FewOf (r : Running) (mark records : ℕ) : Type 0 where
+  pub bound : now_left (Some r) mark records ≤ 18 * (records - mark) + extra r
+  pub one : extra r ≤ 1
+  pub waits : (own : Own) → running_step own (Some r) ≡ None → extra r ≡ 0
+
+-- an alert at once that waits has none left
+waiting : (own : Own) (work : Work) (target : Target) (part : Part) → work.job ≡ at_once target → part_step own work part ≡ None → part_left (at_once target) part ≡ 0
+waiting own work target (Acting act) job_is none = absurd (cc none)
+waiting own work target Calling job_is none = absurd (cc none)
+waiting own work target (Alerting alert) job_is none = by (is_due alert.attempt) refl none
+  where
+    by : (b : Bool) → is_due alert.attempt ≡ b → cond b (Some (trap_step own work alert (target_at work.job.targets alert.first alert.place))) None ≡ None → part_left (at_once target) (Alerting alert) ≡ 0
+    by true is none = absurd (cc none)
+    by false is none = omega (arith, ltb-false alert.attempt.outcomes (sends alert.attempt.wait alert.attempt.retries alert.attempt.ticks) is)
+
 module _ (Z : List ℕ) (past : List Deed) (r : Running) (is_open : IsOpenPart r.work.job.targets r.part) where
   abbrev records : ℕ
   records = length (log past)
 
-  by_latest : (us : List Undertaking) (mark : ℕ) → RunsWithin us mark records → AllBegan Z past us → running (ticks past) us ≡ Some r → now_left (Some r) mark records ≤ 18 * (records - mark) + 1
+  by_latest : (us : List Undertaking) (mark : ℕ) → RunsWithin us mark records → AllBegan Z past us → running (ticks past) us ≡ Some r → FewOf r mark records
   by_latest [] mark w began is = absurd (cc is)
   by_latest (u ∷ us) mark w began is = by began.0
     where
@@ -211,26 +240,29 @@ module _ (Z : List ℕ) (past : List Deed) (r : Running) (is_open : IsOpenPart r
           by (ToAlert first place) its part = cc (part, is_act)
           by ToCall its part = cc (part, is_act)
 
-      by : BeganFor Z past u ⊎ BeganAtOnce past u → now_left (Some r) mark records ≤ 18 * (records - mark) + 1
+      by : BeganFor Z past u ⊎ BeganAtOnce past u → FewOf r mark records
       by (inl b) =
           let few : length u.job.targets ≤ 16 = subst (λ j. length j.targets ≤ 16) (sym b.job_is) (all_within (pef Z b.start) (lan_tables b.start) (ports_of Z) b.event) in
           let at : LatestWithin (Some (length b.before + 1)) mark records = subst (λ n. LatestWithin n mark records) b.number latest in
-          subst (λ n. part_left r.work.job r.part + 18 * (records - mark_behind n mark) ≤ 18 * (records - mark) + 1) (sym (it.number ∙ b.number)) (
-          omega (arith, part_is_small r.work.job r.part (subst (λ j. length j.targets ≤ 16) (sym it.job) few) is_open, at.0, at.1))
+          let small = part_is_small r.work.job r.part (subst (λ j. length j.targets ≤ 16) (sym it.job) few) is_open in
+          record {
+            bound = subst (λ n. part_left r.work.job r.part + 18 * (records - mark_behind n mark) ≤ 18 * (records - mark) + extra_by n r) (sym (it.number ∙ b.number)) (omega (arith, small, at.0, at.1));
+            one = subst (λ n. extra_by n r ≤ 1) (sym (it.number ∙ b.number)) (omega arith);
+            waits = λ own none. ap (λ n. extra_by n r) (it.number ∙ b.number);
+          }
       by (inr b) =
           let job_is : r.work.job ≡ at_once b.target = it.job ∙ b.job_is in
           let small : part_left (at_once b.target) r.part ≤ 1 = alert_is_small b.target r.part (subst (λ j. IsOpenPart j.targets r.part) job_is is_open) (no_act (ap (λ j. j.act) b.job_is)) in
-          subst (λ n. part_left r.work.job r.part + 18 * (records - mark_behind n mark) ≤ 18 * (records - mark) + 1) (sym (it.number ∙ b.number)) (
-          subst (λ j. part_left j r.part + 18 * (records - mark) ≤ 18 * (records - mark) + 1) (sym job_is) (omega (arith, small)))
+          record {
+            bound = subst (λ n. part_left r.work.job r.part + 18 * (records - mark_behind n mark) ≤ 18 * (records - mark) + extra_by n r) (sym (it.number ∙ b.number)) (omega arith);
+            one = subst (λ n. extra_by n r ≤ 1) (sym (it.number ∙ b.number)) (subst (λ j. part_left j r.part ≤ 1) (sym job_is) small);
+            waits = λ own none. ap (λ n. extra_by n r) (it.number ∙ b.number) ∙ ap (λ j. part_left j r.part) job_is ∙ waiting own r.work b.target r.part job_is none;
+          }
 
-pub few_left : (c : Controller) (r : Running) → c.running ≡ Some r → IsOpenPart r.work.job.targets r.part → (Z : List ℕ) (H : List (Entry Item)) → ShowsController c Z H
-    → left (shown c) ≤ 18 * (length c.log - c.mark) + 1
-few_left c r some is_open Z H shows =
+pub few_of : (c : Controller) (r : Running) → c.running ≡ Some r → IsOpenPart r.work.job.targets r.part → (Z : List ℕ) (H : List (Entry Item)) → ShowsController c Z H
+    → FewOf r c.mark (length c.log)
+few_of c r some is_open Z H shows =
     let past = past_of Z H in
     let runs_there : running (ticks past) (course Z past).undertakings ≡ Some r = sym (ap (λ v. v.now.running) shows.values_are) ∙ some in
-    let bound = by_latest Z past r is_open (course Z past).undertakings (course Z past).mark (within Z H).runs (all_began Z past) runs_there in
-    let at_past : left (standing Z H) ≤ 18 * (length (log past) - (course Z past).mark) + 1 = subst (λ o. now_left o (course Z past).mark (length (log past)) ≤ 18 * (length (log past) - (course Z past).mark) + 1) (sym runs_there) bound in
-    subst (λ v. left v ≤ 18 * (length v.records - v.now.mark) + 1) (sym shows.values_are) at_past
-
-pub none_runs : (c : Controller) → c.running ≡ None → left (shown c) ≤ 18 * (length c.log - c.mark) + 1
-none_runs c none = omega (arith, ap (λ o. now_left o c.mark (length c.log)) none)
+    let few = by_latest Z past r is_open (course Z past).undertakings (course Z past).mark (within Z H).runs (all_began Z past) runs_there in
+    subst (λ v. FewOf r v.now.mark (length v.records)) (sym shows.values_are) few

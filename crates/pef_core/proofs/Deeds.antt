@@ -1,11 +1,15 @@
 -- What a deed changes in a controller.
-use Rattle.std.proofs.Common.{◌≡◌, ◌≢◌, ℕ, ◌+◌, ◌-◌, ◌%◌, ◌≤◌, ◌<◌, Bool, true, false, cond, eqb, List, [], ◌∷◌, length, take, Option, Some, None, refl, sym, ◌∙◌, ap, eqb-true, leb, leb-true, arith}
-use Rattle.std.specs.Prelude.{◌==◌, not, IfSome}
+use Rattle.std.proofs.Common.{◌≡◌, ◌≢◌, ℕ, ◌+◌, ◌-◌, ◌%◌, ◌≤◌, Bool, true, false, cond, eqb, List, [], ◌∷◌, length, take, Option, Some, None, refl, sym, ◌∙◌, ap, eqb-true, leb, leb-true, arith}
+use Rattle.std.specs.Prelude.{◌==◌, not, IfSome, drop, option_map}
 use Rattle.std.proofs.Math.Path.{fun_ext}
 use Rattle.event_record.specs.declared.fault.RecordFault.{RecordFault}
 use Rattle.event_record.specs.declared.fault.LogFault.{LogFault}
 use Rattle.event_record.specs.Rules.{record_fault}
 use Rattle.event_record.specs.Log.{add_fault}
+use Rattle.board_core.specs.declared.step.Step.{Step}
+use Rattle.board_core.specs.declared.step.Told.{Told}
+use Rattle.pet_body.specs.declared.ack.PetAck.{PetAck}
+use Rattle.frame_answers.specs.Answers.{Answered}
 use Rattle.lan_dest.specs.Parameters as lan
 use Rattle.lan_dest.specs.Kept.{kept}
 use Rattle.pef_config.specs.Places.{Tables, Write, PutsAt, powered}
@@ -16,7 +20,7 @@ use Rattle.pef_match.specs.declared.target.Target.{Target}
 use Rattle.pef_config.specs.Kept.{tables}
 use Rattle.pef_core.specs.declared.controller.Controller.{Controller}
 use Rattle.pef_core.specs.declared.counts.Counts.{Counts}
-use Rattle.pef_core.specs.declared.counts.Counts.TheVariants.{Second}
+use Rattle.pef_core.specs.declared.counts.Counts.TheVariants.{Second, Ack}
 use Rattle.pef_core.specs.declared.item.Item.TheVariants.{Event}
 use Rattle.pef_core.specs.declared.note.Note.{Note}
 use Rattle.pef_core.specs.declared.note.Note.TheVariants.{Nothing}
@@ -25,14 +29,14 @@ use Rattle.pef_core.specs.declared.postpone.Postpone.TheVariants.{Seconds}
 use Rattle.pef_core.specs.declared.turn.Turn.{Turn}
 use Rattle.pef_core.specs.declared.turn.Turn.TheVariants.{ToAlert}
 use Rattle.pef_core.specs.declared.work.Work.{Work}
-use Rattle.pef_core.specs.Past.{Unchanged, SetPef, SetLan, Armed, Marked, SoftwareMarked, Cleared, Sends, Replied, Ticked, Powered, delay_by, less_by, records_with, note_with}
+use Rattle.pef_core.specs.Past.{Unchanged, SetPef, SetLan, Armed, Marked, SoftwareMarked, Cleared, Sends, Replied, Ticked, Powered, WasTold, delay_by, less_by, records_with, note_with}
 use Rattle.pef_core.specs.Course.{guid_by, number_of}
 use Rattle.pef_core.specs.Running.{Running, IsTurn}
 use Rattle.pef_core.specs.Undertaking.{set_at}
 use Rattle.pef_core.specs.Values.{Now, Values, stamp_at, force_of}
-use Rattle.pef_core.specs.Deeds.{event_deed, item_deed, reply_deed}
+use Rattle.pef_core.specs.Deeds.{event_deed, item_deed, reply_deed, frame_deed, told_deed}
 use Rattle.pef_core.specs.Replies.{Answer, refusal, telling, done_with, answer_to_write, timer_octet, armed_by, arm, is_no_string, cleared}
-use Rattle.pef_core.specs.After.{begins, counted_now, with_deed}
+use Rattle.pef_core.specs.After.{begins, counted_now, moved_by, with_deed}
 use Rattle.pef_core.specs.View.{shown}
 use Rattle.pef_core.proofs.TurnOrder.{eq_self}
 
@@ -182,3 +186,22 @@ pub begins_alike : (work : Work) (stamp : ℕ) (turn : Option Turn) (last : Opti
     → begins work stamp turn last (record n { running = before }) ≡ begins work stamp turn last n
 begins_alike work stamp None last before n = refl
 begins_alike work stamp (Some turn) last before n = refl
+
+-- a frame with these replies and this acknowledgement
+abbrev pub framed : List Step → Option PetAck → Values → Values
+framed replies ack v = record v { replies = replies; note = Nothing; reply = None; now = moved_by (option_map Ack ack) (stamp_at v.ticks) v.now }
+
+pub frames : (v : Values) (replies : List Step) (ack : Option PetAck) (a : Answered) → replies ≡ a.replies → ack ≡ a.ack
+    → framed replies ack v ≡ with_deed (frame_deed a) v
+frames v replies ack a replies_are ack_is = ap (λ r. framed r ack v) replies_are ∙ ap (λ o. framed a.replies o v) ack_is
+
+-- the outcome of a reply, and that of another step
+pub hears_reply : (v : Values) (told : Told) → (v.replies ≡ [] → ⊥) → record v { replies = drop 1 v.replies } ≡ with_deed (told_deed v.replies told) v
+hears_reply v told some = by v.replies refl
+  where
+    by : (replies : List Step) → v.replies ≡ replies → record v { replies = drop 1 v.replies } ≡ with_deed (told_deed replies told) v
+    by [] none = absurd (some none)
+    by (reply ∷ replies) is = refl
+
+pub hears_step : (v : Values) (told : Told) → v.replies ≡ [] → with_deed (WasTold told) v ≡ with_deed (told_deed v.replies told) v
+hears_step v told none = ap (λ replies. with_deed (told_deed replies told) v) (sym none)

@@ -1,6 +1,6 @@
 -- What a command does fits what runs: an alert at once begins where nothing runs, the log is cleared where nothing runs, and the mark is moved
 -- where no record's job runs.
-use Rattle.std.proofs.Common.{◌≡◌, ℕ, Bool, true, false, cond, eqb, List, [], ◌∷◌, Option, Some, None, refl, sym, ◌∙◌, ap, subst}
+use Rattle.std.proofs.Common.{◌≡◌, ℕ, Bool, true, false, cond, eqb, List, [], ◌∷◌, Option, Some, None, refl, ◌∙◌}
 use Rattle.std.specs.Prelude.{⊤, ◌||◌, ◌&&◌, nat_lt, not, is_some, length, Result, Ok, Err}
 use Rattle.pef_commands.specs.Parsing.{parsed}
 use Rattle.pef_commands.specs.declared.command.Command as command
@@ -14,14 +14,16 @@ use Rattle.event_record.specs.Log.{add_fault}
 use Rattle.pef_config.specs.Rows.{answer_if, set_code}
 use Rattle.pef_match.specs.declared.target.Target.{Target}
 use Rattle.pef_core.specs.declared.item.Item.{Item}
-use Rattle.pef_core.specs.declared.item.Item.TheVariants.{Event, Command, Tick, Power, Open, Close}
+use Rattle.pef_core.specs.declared.item.Item.TheVariants.{Event, Command, Frame, Tick, Power, Open, Close}
 use Rattle.pef_core.specs.declared.turn.Turn.{Turn}
 use Rattle.pef_core.specs.Past.{Effect, Unchanged, SetPef, SetLan, Acked, Armed, Marked, SoftwareMarked, Cleared, Sends, StatusCleared, Deed, effect_of, ticks}
 use Rattle.pef_core.specs.Undertaking.{Undertaking, turn_of, is_running}
 use Rattle.pef_core.specs.Course.{guid_by, is_busy, course}
 use Rattle.pef_core.specs.Running.{Running}
 use Rattle.pef_core.specs.Values.{Values, running_at, running, values, force_of}
-use Rattle.pef_core.specs.Deeds.{event_deed, deed}
+use Rattle.board_core.specs.declared.step.Step.{Step}
+use Rattle.board_core.specs.declared.step.Told.{Told}
+use Rattle.pef_core.specs.Deeds.{event_deed, told_deed, deed}
 use Rattle.lan_dest.specs.Rows as lan_rows
 use Rattle.pef_config.specs.Places.{our_sizes, write}
 use Rattle.pef_match.specs.AtOnce.{target_at_once}
@@ -110,14 +112,19 @@ module _ (v : Values) where
   event_fits None (Some fault) event = tt
   event_fits None None event = tt
 
+  told_fits : (replies : List Step) (told : Told) → FitsNow (effect_of (told_deed replies told)) r
+  told_fits [] told = tt
+  told_fits (reply ∷ replies) told = tt
+
   deed_fits : (entry : Entry Item) → FitsNow (effect_of (deed v entry)) r
   deed_fits (Taken (Event event)) = event_fits (record_fault event) (add_fault v.records event) event
   deed_fits (Taken (Command asked)) = command_fits (parsed asked)
+  deed_fits (Taken (Frame from octets)) = tt
   deed_fits (Taken Tick) = tt
   deed_fits (Taken Power) = tt
   deed_fits (Taken (Open id count)) = tt
   deed_fits (Taken Close) = tt
-  deed_fits (Outcome told) = tt
+  deed_fits (Outcome told) = told_fits v.replies told
 
 -- what runs is the latest undertaking
 no_job : (now : ℕ) (us : List Undertaking) → runs_job (running now us) ≡ false → NoJob us

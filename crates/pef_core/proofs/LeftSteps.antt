@@ -22,14 +22,15 @@ use Rattle.pef_core.specs.declared.own.Own.{Own}
 use Rattle.pef_core.specs.declared.turn.Turn.{Turn}
 use Rattle.pef_core.specs.declared.turn.Turn.TheVariants.{ToAct, ToAlert, ToCall}
 use Rattle.pef_core.specs.declared.work.Work.{Work}
-use Rattle.pef_core.specs.Past.{WasTold}
+use Rattle.board_core.specs.declared.step.Step.{Step}
+use Rattle.pef_core.specs.Past.{WasTold, ReplySent}
 use Rattle.pef_core.specs.Course.{Force, mark_behind}
 use Rattle.pef_core.specs.Values.{Now, Values, stamp_at, force_of}
 use Rattle.pef_core.specs.Undertaking.{one_set, set_at, stops_at, target_at, first_stage, turn_in, turn_at}
 use Rattle.pef_core.specs.Running.{Running, IsOpenPart, MayCount}
 use Rattle.pef_core.specs.After.{part_after, result_after, turn_from, turn_or_next, turn_behind, first_turn, part_begun, begins, progress, progress_by, now_with, counted_now, work_of, begin_with, begin_jobs_now, begun, with_deed, may_begin_now, with_next_job}
 use Rattle.pef_core.proofs.TurnOrder.{starts}
-use Rattle.pef_core.specs.Histories.{is_due, trap_step, part_step, running_step}
+use Rattle.pef_core.specs.Histories.{is_due, trap_step, part_step, running_step, first_or}
 use Rattle.pef_core.specs.Left.{oem_left, part_left, turn_left, progress_left, now_left, left}
 
 -- the place of a stop that is tried, in a list that begins at this place
@@ -140,8 +141,16 @@ counted_left told stamp r n records is_open due = by (result_after (Heard told) 
 -- the step that is due had an outcome
 pub outcome_leaves_fewer : (told : Told) (v : Values) (r : Running) → v.now.running ≡ Some r → IsOpenPart r.work.job.targets r.part → MayCount (Heard told) r.part → left (with_deed (WasTold told) v) < left v
 outcome_leaves_fewer told v r runs is_open due =
-    subst (λ o. left (with_deed (WasTold told) (record v { now = record v.now { running = o } })) < now_left o v.now.mark (length v.records)) (sym runs)
-    (counted_left told (stamp_at v.ticks) r (record v.now { running = Some r }) (length v.records) is_open due)
+    subst (λ o. left (with_deed (WasTold told) (record v { now = record v.now { running = o } })) < length v.replies + now_left o v.now.mark (length v.records)) (sym runs)
+    (omega (arith, counted_left told (stamp_at v.ticks) r (record v.now { running = Some r }) (length v.records) is_open due))
+
+-- a reply that was due had one
+pub reply_leaves_fewer : (v : Values) → (v.replies ≡ [] → ⊥) → left (with_deed ReplySent v) < left v
+reply_leaves_fewer v some = by v.replies refl
+  where
+    by : (replies : List Step) → v.replies ≡ replies → length (drop 1 replies) + now_left v.now.running v.now.mark (length v.records) < length replies + now_left v.now.running v.now.mark (length v.records)
+    by [] is = absurd (some is)
+    by (reply ∷ replies) is = omega arith
 
 first_left : (job : Parts) → turn_left job (first_turn job) ≤ 1 + (length job.targets + oem_left job)
 first_left job = by job.act
@@ -174,11 +183,11 @@ module _ (f : Force) (stamp : ℕ) where
       by others None first = omega (arith, others (record n { mark = n.mark + 1 }) idle (omega (arith, is)))
       by others (Some turn) first = omega (arith, begins_left work stamp (Some turn) None n records, work_is_small (n.mark + 1) event (Some turn) first, is)
 
-none_is : (o : Option Running) → is_some o ≡ false → o ≡ None
+pub none_is : (o : Option Running) → is_some o ≡ false → o ≡ None
 none_is None is = refl
 none_is (Some r) is = absurd (cc is)
 
-not_true : (b : Bool) → not b ≡ true → b ≡ false
+pub not_true : (b : Bool) → not b ≡ true → b ≡ false
 not_true true is = absurd (cc is)
 not_true false is = refl
 
@@ -191,7 +200,7 @@ begins_within v = by (not (is_some v.now.running) && may_begin_now v) refl
     by true is =
         let idle : v.now.running ≡ None = none_is v.now.running (not_true (is_some v.now.running) (and_parts (not (is_some v.now.running)) (may_begin_now v) is).0) in
         let small = begun_is_small (force_of v) (stamp_at v.ticks) (drop v.now.mark v.records) v.now (length v.records) idle (length-drop v.now.mark v.records) in
-        let free : left v ≡ 18 * (length v.records - v.now.mark) = ap (λ o. now_left o v.now.mark (length v.records)) idle in
+        let free : now_left v.now.running v.now.mark (length v.records) ≡ 18 * (length v.records - v.now.mark) = ap (λ o. now_left o v.now.mark (length v.records)) idle in
         omega (arith, small, free, length-drop v.now.mark v.records)
 
 -- what is due while nothing runs, and while this part is open
@@ -207,6 +216,19 @@ part_hears own told work (Alerting alert) some = by (is_due alert.attempt) refl 
     by : (b : Bool) → is_due alert.attempt ≡ b → IsSome (cond b (Some (trap_step own work alert (target_at work.job.targets alert.first alert.place))) None) → IsDue alert.attempt
     by true is some = ltb-true alert.attempt.outcomes (sends alert.attempt.wait alert.attempt.retries alert.attempt.ticks) is
     by false is some = absurd cc
+
+-- where no reply is due, the step that is due is that of what runs; and where none is due at all, none of what runs is
+pub of_what_runs : (replies : List Step) (step : Option Step) → replies ≡ [] → IsSome (first_or replies step) → IsSome step
+of_what_runs [] step none some = some
+of_what_runs (reply ∷ replies) step none some = absurd (cc none)
+
+pub none_of_what_runs : (replies : List Step) (step : Option Step) → first_or replies step ≡ None → step ≡ None
+none_of_what_runs [] step none = none
+none_of_what_runs (reply ∷ replies) step none = absurd (cc none)
+
+pub no_reply : (replies : List Step) (step : Option Step) → first_or replies step ≡ None → replies ≡ []
+no_reply [] step none = refl
+no_reply (reply ∷ replies) step none = absurd (cc none)
 
 pub may_hear : (own : Own) (told : Told) (o : Option Running) (r : Running) → o ≡ Some r → IsSome (running_step own o) → MayCount (Heard told) r.part
 may_hear own told None r is some = absurd (cc is)

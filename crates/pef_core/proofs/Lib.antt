@@ -10,4 +10,5 @@ pub mod Fitting
 pub mod Promises
 pub mod Retries
 pub mod Bound
+pub mod Few
 pub mod Decoding

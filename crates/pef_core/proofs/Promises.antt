@@ -1,12 +1,10 @@
 -- The course of a history goes in order, and each job is that of its record by the parameters at its start.
-use Rattle.std.proofs.Common.{◌≡◌, ◌⊎◌, inl, inr, ℕ, suc, zero, ◌+◌, ◌-◌, ◌≤◌, Bool, true, false, cond, List, [], ◌∷◌, ◌++◌, length, take, drop, Option, Some, None, refl, sym, ◌∙◌, ap, subst, arith, length-append, append_assoc, length-take, length-drop}
+use Rattle.std.proofs.Common.{◌≡◌, ◌⊎◌, inl, inr, ℕ, suc, zero, ◌+◌, ◌-◌, ◌≤◌, Bool, true, false, cond, List, [], ◌∷◌, ◌++◌, length, take, drop, Option, Some, None, refl, sym, ◌∙◌, ap, subst, arith, length-append, append_assoc, length-drop}
 use Rattle.std.specs.Prelude.{not, ◌&&◌, is_some}
 use Rattle.std.proofs.lemmas.List.{take-append-drop}
 use Rattle.board_core.specs.declared.step.Act.{Act}
-use Rattle.std.specs.Option.{option_map}
 use Rattle.board_core.specs.declared.step.Told.{Told}
 use Rattle.board_core.specs.declared.step.Told.TheVariants.{Done, Failed}
-use Rattle.pef_config.specs.Places.{our_sizes}
 use Rattle.pef_engine.specs.declared.entry.Entry.{Entry}
 use Rattle.pef_match.specs.Parts.{Parts}
 use Rattle.policy_walk.specs.Tried.{place_after}
@@ -15,12 +13,12 @@ use Rattle.pef_core.specs.declared.counts.Counts.TheVariants.{Second, Ack, Heard
 use Rattle.pef_core.specs.declared.item.Item.{Item}
 use Rattle.pef_core.specs.declared.turn.Turn.{Turn}
 use Rattle.pef_core.specs.declared.turn.Turn.TheVariants.{ToAct, ToAlert, ToCall}
-use Rattle.pef_core.specs.Past.{Effect, Unchanged, SetPef, SetLan, Acked, Armed, Marked, SoftwareMarked, Cleared, Sends, StatusCleared, Deed, Logged, Dropped, Replied, Passed, Ticked, Powered, WasTold, effect_of, log, pef, delay, postpone, counts_of}
+use Rattle.pef_core.specs.Past.{Effect, Unchanged, SetPef, SetLan, Acked, Armed, Marked, SoftwareMarked, Cleared, Sends, StatusCleared, Deed, Logged, Dropped, Replied, Framed, Passed, Ticked, Powered, WasTold, ReplySent, effect_of, log, pef, delay, postpone, counts_of}
 use Rattle.pef_core.specs.Undertaking.{Undertaking, Stage, First, InSet, Finished, stops_at, first_stage, set_at, results_in, turn_in, turn_at, stage_after, sequence_behind, result_of, ended_or, joined, cut_by, cut_of, turn_of, is_running}
-use Rattle.pef_core.specs.Course.{Course, force, begun, begun_at_once, drawn_by, is_busy, mark_behind, status_behind, counted_by, counted, moved_by, with_effect, moved, may_begin, begin_jobs, next_job, course}
+use Rattle.pef_core.specs.Course.{Course, force, begun, drawn_by, is_busy, mark_behind, counted_by, counted, moved_by, with_effect, moved, may_begin, begin_jobs, next_job, course}
 use Rattle.pef_core.specs.Counting.{outcomes, outcome_in}
 use Rattle.pef_core.specs.Deeds.{deed, past_behind, past_of}
-use Rattle.pef_core.specs.Promises.{onto, numbers, reached_by, reached, numbers_behind, GoesInOrder, moves_mark, NoneMoves, BeganFor, BeganAtOnce, AllBegan, heard_by}
+use Rattle.pef_core.specs.Promises.{numbers, reached_by, reached, numbers_behind, GoesInOrder, moves_mark, NoneMoves, BeganFor, BeganAtOnce, AllBegan, heard_by}
 use Rattle.pef_core.specs.Values.{values}
 use Rattle.pef_core.proofs.Fitting.{Fits, fits}
 use Rattle.pef_core.proofs.Standing.{target_turn}
@@ -99,10 +97,12 @@ began_with Z (Replied octets effect) past records c all = by effect all
     by StatusCleared all = all
 began_with Z (Logged event) past records c all = all
 began_with Z (Dropped why) past records c all = all
+began_with Z (Framed replies ack) past records c all = all
 began_with Z Passed past records c all = all
 began_with Z Ticked past records c all = all
 began_with Z Powered past records c all = all
 began_with Z (WasTold told) past records c all = all
+began_with Z ReplySent past records c all = all
 
 plus_one : (n : ℕ) → n + 1 ≡ suc n
 plus_one n = omega arith

@@ -4,12 +4,12 @@ use Rattle.pef_core.specs.declared.counts.Counts.{Counts}
 use Rattle.pef_core.specs.declared.counts.Counts.TheVariants.{Second, Ack, Heard}
 use Rattle.pef_core.specs.declared.own.Own.{Own}
 use Rattle.pef_core.specs.declared.turn.Turn.{Turn}
-use Rattle.pef_core.specs.declared.turn.Turn.TheVariants.{ToAct, ToAlert, ToCall}
+use Rattle.pef_core.specs.declared.turn.Turn.TheVariants.{ToAlert}
 use Rattle.pef_core.specs.Counting.{all_seconds}
 use Rattle.pef_core.specs.Undertaking.{Undertaking, Cut, target_at, sequence_behind, turn_at, one_if_alert, result_of, ended_or, joined, cut_by, cut_of, turn_of}
 use Rattle.pef_core.specs.Values.{stamp_at, alert_in, work_in}
 use Rattle.pef_core.specs.Histories.{trap_step}
-use Rattle.pef_core.specs.Promises.{with_later, trap_at, IsSent}
+use Rattle.pef_core.specs.Promises.{with_later, IsSent}
 
 -- alerts that are over stay so
 module _ (u : Undertaking) where

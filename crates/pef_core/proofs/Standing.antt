@@ -1,7 +1,6 @@
 -- What stands after one more entry, from what stood before it: neither the past nor the course is opened again.
 use Rattle.std.proofs.Common.{◌≡◌, ℕ, ◌+◌, ◌-◌, ◌%◌, Bool, true, false, not, eqb, eqb-true, ◌||◌, cond, List, [], ◌∷◌, ◌++◌, drop, Option, Some, None, refl, sym, ◌∙◌, ap, arith}
 use Rattle.std.specs.Prelude.{◌&&◌, is_some}
-use Rattle.std.proofs.Math.Path.{fun_ext}
 use Rattle.std.proofs.lemmas.Bool.{eqb-false}
 use Rattle.alert_trap.specs.Acknowledgement.{ack_awaited}
 use Rattle.lan_dest.specs.Attempts.{verdict}
@@ -17,7 +16,6 @@ use Rattle.pef_engine.specs.declared.entry.Entry.{Entry}
 use Rattle.pef_core.specs.declared.counts.Counts.{Counts}
 use Rattle.pef_core.specs.declared.counts.Counts.TheVariants.{Second, Ack, Heard}
 use Rattle.pef_core.specs.declared.item.Item.{Item}
-use Rattle.pef_core.specs.declared.part.Alerting.{Alerting as Alert}
 use Rattle.pef_core.specs.declared.part.Part.TheVariants.{Alerting}
 use Rattle.pef_core.specs.declared.postpone.Postpone.{Postpone}
 use Rattle.pef_core.specs.declared.postpone.Postpone.TheVariants.{Disabled, Seconds}
@@ -25,7 +23,7 @@ use Rattle.pef_core.specs.declared.turn.Turn.{Turn}
 use Rattle.pef_core.specs.declared.turn.Turn.TheVariants.{ToAct, ToAlert, ToCall}
 use Rattle.pef_core.specs.declared.work.Work.{Work}
 use Rattle.pef_core.specs.Counting.{same_ack, one_acks, counted as counted_alert, all_seconds}
-use Rattle.pef_core.specs.Past.{Effect, Unchanged, SetPef, SetLan, Acked, Armed, Marked, SoftwareMarked, Cleared, Sends, StatusCleared, Deed, Logged, Dropped, Replied, Passed, Ticked, Powered, WasTold, effect_of, log, pef, pef_written, pef_writes, lan_written, lan_writes, lan_tables, ticks, delay_by, delay_set, seconds_on, delay, armed_in, set_or, timer_set, seconds_armed, less_by, postpone, counts_of}
+use Rattle.pef_core.specs.Past.{Effect, Unchanged, SetPef, SetLan, Acked, Armed, Marked, SoftwareMarked, Cleared, Sends, StatusCleared, Deed, Logged, Dropped, Replied, Framed, Passed, Ticked, Powered, WasTold, ReplySent, effect_of, log, pef, pef_written, pef_writes, lan_written, lan_writes, lan_tables, ticks, delay_by, delay_set, seconds_on, delay, armed_in, set_or, timer_set, seconds_armed, less_by, postpone, counts_of}
 use Rattle.pef_core.specs.Undertaking.{Undertaking, Stage, InSet, Cut, first_stage, is_running, turn_in, turn_at, stage_after, sequence_behind, alert_at, target_at, result_of, one_if_alert, ended_or, joined, cut_of, turn_of, alerts_open, drawn_with}
 use Rattle.pef_core.specs.Running.{Running}
 use Rattle.pef_core.specs.Course.{Course, Force, drawn_by, begun as begun_for, begun_at_once, is_busy, mark_behind, status_behind, gone_on, counted_by, counted, with_effect, moved, begin_jobs, next_job, course}
@@ -51,20 +49,24 @@ lan_value_behind (write ∷ writes) earlier = ap (lan.written write) (lan_value_
 pef_next : (Z : List ℕ) (d : Deed) (past : List Deed) → pef Z (d ∷ past) ≡ pef_after d (pef Z past)
 pef_next Z Powered past = value_powered (initial_of Z) (pef_writes past)
 pef_next Z (Replied octets effect) past = value_behind Z (pef_written effect) (pef_writes past)
+pef_next Z (Framed replies ack) past = refl
 pef_next Z (Logged event) past = refl
 pef_next Z (Dropped why) past = refl
 pef_next Z Passed past = refl
 pef_next Z Ticked past = refl
 pef_next Z (WasTold told) past = refl
+pef_next Z ReplySent past = refl
 
 lan_next : (d : Deed) (past : List Deed) → lan_tables (d ∷ past) ≡ lan_after d (lan_tables past)
 lan_next (Replied octets effect) past = lan_value_behind (lan_written effect) (lan_writes past)
+lan_next (Framed replies ack) past = refl
 lan_next Powered past = refl
 lan_next (Logged event) past = refl
 lan_next (Dropped why) past = refl
 lan_next Passed past = refl
 lan_next Ticked past = refl
 lan_next (WasTold told) past = refl
+lan_next ReplySent past = refl
 
 -- the seconds, modulo 2 to the power of 32
 one_more : (t : ℕ) → (t + 1) % 4294967296 ≡ (t % 4294967296 + 1) % 4294967296
@@ -75,9 +77,11 @@ ticks_next Ticked past = one_more (ticks past)
 ticks_next (Logged event) past = refl
 ticks_next (Dropped why) past = refl
 ticks_next (Replied octets effect) past = refl
+ticks_next (Framed replies ack) past = refl
 ticks_next Passed past = refl
 ticks_next Powered past = refl
 ticks_next (WasTold told) past = refl
+ticks_next ReplySent past = refl
 
 -- one second less is left
 one_off : (set since : ℕ) → set - (since + 1) ≡ set - since - 1
@@ -92,8 +96,10 @@ delay_next Z Powered past = none_off (delay_by (pef Z (Powered ∷ past))) ∙ a
 delay_next Z (Logged event) past = refl
 delay_next Z (Dropped why) past = refl
 delay_next Z (Replied octets effect) past = refl
+delay_next Z (Framed replies ack) past = refl
 delay_next Z Passed past = refl
 delay_next Z (WasTold told) past = refl
+delay_next Z ReplySent past = refl
 
 less_by_none : (timer : Postpone) → less_by 0 timer ≡ timer
 less_by_none Disabled = refl
@@ -111,10 +117,12 @@ postpone_next (Replied octets effect) past = by (armed_in effect)
     by : (o : Option Postpone) → less_by (cond (is_some o) 0 (seconds_armed past)) (set_or (timer_set past) o) ≡ set_or (postpone past) o
     by None = refl
     by (Some timer) = less_by_none timer
+postpone_next (Framed replies ack) past = refl
 postpone_next (Logged event) past = refl
 postpone_next (Dropped why) past = refl
 postpone_next Passed past = refl
 postpone_next (WasTold told) past = refl
+postpone_next ReplySent past = refl
 
 stamp_is : (t : ℕ) → stamp_at t ≡ stamp_at (t % 4294967296)
 stamp_is t = omega arith
@@ -335,10 +343,13 @@ module _ (past : List Deed) (c : Course) where
       by Cleared = refl
       by (Sends target guid) = effect_now t (Sends target guid) (log past) c
       by StatusCleared = refl
+  now_next (Framed replies None) = refl
+  now_next (Framed replies (Some ack)) = counts_now t (Ack ack) c.undertakings c refl
   now_next Passed = refl
   now_next Powered = refl
   now_next Ticked = counts_now t Second c.undertakings c refl
   now_next (WasTold told) = counts_now t (Heard told) c.undertakings c refl
+  now_next ReplySent = refl
 
 -- whether anything runs
 pub busy_is : (now : ℕ) (us : List Undertaking) → is_busy us ≡ is_some (running now us)

@@ -26,7 +26,7 @@ use Rattle.pef_core.specs.declared.turn.Turn.{Turn}
 use Rattle.pef_core.specs.declared.turn.Turn.TheVariants.{ToAct, ToAlert, ToCall}
 use Rattle.pef_core.specs.declared.work.Work.{Work}
 use Rattle.pef_core.specs.Counting.{same_ack}
-use Rattle.pef_core.specs.Past.{Effect, Marked, Cleared, Sends, StatusCleared, Deed, Ticked, Powered, effect_of, records_with, pef_written, lan_written, delay_by, armed_in, set_or, less_by, software_with, note_with, reply_with, counts_of}
+use Rattle.pef_core.specs.Past.{Effect, Marked, Cleared, Sends, StatusCleared, Deed, Ticked, Powered, effect_of, records_with, pef_written, lan_written, delay_by, armed_in, set_or, less_by, software_with, note_with, reply_with, replies_with, counts_of}
 use Rattle.pef_core.specs.Undertaking.{set_at, stops_at, target_at, first_stage, turn_in, turn_at}
 use Rattle.pef_core.specs.Course.{Force, guid_by, mark_behind, status_behind, number_of, may_begin}
 use Rattle.pef_core.specs.Running.{Running, IsTurn}
@@ -195,6 +195,7 @@ with_deed d v = record {
   software = software_with (effect_of d) v.software;
   note = note_with d v.note;
   reply = reply_with d v.reply;
+  replies = replies_with d v.replies;
   now = moved_by (counts_of d) (stamp_at (ticks_after d v.ticks)) (now_with_effect (effect_of d) (stamp_at v.ticks) v.records v.now);
 }
 

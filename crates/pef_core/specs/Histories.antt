@@ -1,5 +1,6 @@
 -- What the histories of a controller mean.
-use Rattle.std.specs.Prelude.{◌≡◌, ⊤, ℕ, ◌<◌, ◌≤◌, ◌^◌, Bool, false, nat_lt, List, [], ◌∷◌, length, Option, Some, None, if◌then◌else◌}
+use Rattle.std.specs.Prelude.{◌≡◌, ⊤, ℕ, ◌<◌, ◌≤◌, ◌^◌, Bool, false, nat_lt, List, [], ◌∷◌, ◌++◌, length, Option, Some, None, if◌then◌else◌}
+use Rattle.std.specs.Int.{to_le_bytes, w16}
 use Rattle.board_core.specs.declared.step.Act.TheVariants.{Oem}
 use Rattle.board_core.specs.declared.step.Step.{Step}
 use Rattle.board_core.specs.declared.step.Step.TheVariants.{Act, Datagram}
@@ -16,7 +17,7 @@ use Rattle.pef_engine.specs.Marks.{mark_octets}
 use Rattle.pef_engine.specs.Rules.{Rules}
 use Rattle.pef_engine.specs.Scripts.{MayCome, script_of}
 use Rattle.pef_core.specs.declared.item.Item.{Item}
-use Rattle.pef_core.specs.declared.item.Item.TheVariants.{Event, Command, Tick, Power, Open, Close}
+use Rattle.pef_core.specs.declared.item.Item.TheVariants.{Event, Command, Frame, Tick, Power, Open, Close}
 use Rattle.pef_core.specs.declared.own.Own.{Own}
 use Rattle.pef_core.specs.declared.part.Alerting.{Alerting as Alert}
 use Rattle.pef_core.specs.declared.part.Part.{Part}
@@ -24,6 +25,7 @@ use Rattle.pef_core.specs.declared.part.Part.TheVariants.{Acting, Alerting, Call
 use Rattle.pef_core.specs.declared.work.Work.{Work}
 use Rattle.pef_core.specs.Undertaking.{target_at}
 use Rattle.pef_core.specs.Running.{Running}
+use Rattle.pef_core.specs.Values.{Values}
 use Rattle.pef_core.specs.Deeds.{standing}
 use Rattle.pef_core.specs.Report.{step_in, controller_scripts}
 
@@ -52,19 +54,29 @@ abbrev pub running_step : Own → Option Running → Option Step
 running_step own None = None
 running_step own (Some r) = part_step own r.work r.part
 
--- the step that is due: that of the open part of the job that runs
+-- the first of these replies, else this step
+abbrev pub first_or : List Step → Option Step → Option Step
+first_or [] step = step
+first_or (reply ∷ replies) step = Some reply
+
+-- The step that is due: the first reply to a frame that isn't sent yet, else the step of the open part of what runs. That replies come
+-- first is this project's rule.
+abbrev pub due_in : Values → Option Step
+due_in v = first_or v.replies (running_step v.own v.now.running)
+
 abbrev pub pending : List ℕ → List (Entry Item) → Option Step
-pending Z H = running_step (standing Z H).own (standing Z H).now.running
+pending Z H = due_in (standing Z H)
 
 -- a network function of six bits, and at most 64 octets
 pub record IsRequest (asked : Asked) : Type 0 where
   pub netfn : asked.netfn ≤ 63
   pub payload : length asked.payload ≤ 64
 
--- sixteen octets; numbers of 32 bits
+-- sixteen octets; an address of four octets with a port of 16 bits, and at most 512 octets; numbers of 32 bits
 abbrev pub IsItem : Item → Type 0
 IsItem (Event octets) = length octets ≡ 16
 IsItem (Command asked) = IsRequest asked
+IsItem (Frame from octets) = (length from.ip ≡ 4) × (from.port < 2 ^ 16) × (length octets ≤ 512)
 IsItem Tick = ⊤
 IsItem Power = ⊤
 IsItem (Open id count) = (id < 2 ^ 32) × (count < 2 ^ 32)
@@ -74,10 +86,12 @@ abbrev pub IsEntry : Entry Item → Type 0
 IsEntry (Taken item) = IsItem item
 IsEntry (Outcome told) = ⊤
 
--- the octets of an entry: of an event, a command, a tick and a power cycle a tag and its octets, of the others those of every machine that takes scripts
+-- the octets of an entry: of an event, a command, a frame, a tick and a power cycle a tag and its octets, of the others those of every
+-- machine that takes scripts
 abbrev pub encode : Entry Item → List ℕ
 encode (Taken (Event octets)) = 0x01 ∷ octets
 encode (Taken (Command asked)) = 0x02 ∷ asked.netfn ∷ asked.cmd ∷ asked.payload
+encode (Taken (Frame from octets)) = 0x07 ∷ (from.ip ++ (to_le_bytes w16 from.port ++ octets))
 encode (Taken Tick) = 0x03 ∷ []
 encode (Taken Power) = 0x04 ∷ []
 encode (Taken (Open id count)) = mark_octets (Opened id count)

@@ -1,6 +1,7 @@
 -- What a machine has to show, of the controller.
 use Rattle.std.specs.Prelude.{◌≡◌, ◌↔◌, ◌≤◌, ℕ, Bool, true, false, List, [], ◌∷◌, length, Option, Some, None, IsSome, option_map, bytes_eq, if◌then◌else◌, codes, slice_index, refl}
 use Rattle.std.proofs.Common.{sym, ◌∙◌, ap, subst, arith}
+use Rattle.board_core.specs.declared.step.Address.{Address}
 use Rattle.board_core.specs.declared.step.Told.{Told}
 use Rattle.board_core.specs.declared.step.Told.TheVariants.{Done, Failed}
 use Rattle.pef_commands.specs.Request.{Asked, request_of}
@@ -11,11 +12,11 @@ use Rattle.pef_engine.specs.declared.script.ScriptStep.TheVariants.{Takes}
 use Rattle.pef_engine.specs.MachineView.{Agrees}
 use Rattle.pef_engine.specs.Scripts.{MayCome, IsScripted}
 use Rattle.pef_core.specs.declared.item.Item.{Item}
-use Rattle.pef_core.specs.declared.item.Item.TheVariants.{Event, Command, Tick, Power, Open, Close}
+use Rattle.pef_core.specs.declared.item.Item.TheVariants.{Event, Command, Frame, Tick, Power, Open, Close}
 use Rattle.pef_core.specs.declared.controller.Controller.{Controller}
-use Rattle.pef_core.specs.Histories.{running_step, pending, IsEntry, encode, controller_rules}
-use Rattle.pef_core.specs.Report.{event_of, command_by, command_of, alone, item_of_words, step_in, controller_scripts}
-use Rattle.script_text.specs.Forms.{words_of, octets_exactly, octets_up_to}
+use Rattle.pef_core.specs.Histories.{due_in, pending, IsEntry, encode, controller_rules}
+use Rattle.pef_core.specs.Report.{event_of, command_by, command_of, frame_by, frame_of, alone, item_of_words, step_in, controller_scripts}
+use Rattle.script_text.specs.Forms.{words_of, octets_exactly, octets_up_to, address_of}
 use Rattle.pef_core.specs.View.{ShowsController, due_of, AllowedBy, view_of}
 
 -- an outcome takes the same room whatever was told
@@ -28,6 +29,7 @@ same_size Failed Failed = refl
 pub some_octet : (entry : Entry Item) → 1 ≤ length (encode entry)
 some_octet (Taken (Event octets)) = omega arith
 some_octet (Taken (Command asked)) = omega arith
+some_octet (Taken (Frame from octets)) = omega arith
 some_octet (Taken Tick) = omega arith
 some_octet (Taken Power) = omega arith
 some_octet (Taken (Open id count)) = omega arith
@@ -50,7 +52,7 @@ controller_agrees controller = record {
 }
   where
     due_is : (Z : List ℕ) (H : List (Entry Item)) → ShowsController controller Z H → due_of controller ≡ pending Z H
-    due_is Z H shows = ap (λ v. running_step v.own v.now.running) shows.values_are
+    due_is Z H shows = ap due_in shows.values_are
 
     allowed_is : (Z : List ℕ) (H : List (Entry Item)) (entry : Entry Item) → ShowsController controller Z H → AllowedBy controller entry ↔ Allowed controller_rules Z H entry
     allowed_is Z H (Taken item) shows = (
@@ -86,20 +88,32 @@ commands_take (netfn ∷ cmd ∷ []) item is = absurd (cc is)
 commands_take (netfn ∷ cmd ∷ payload ∷ []) item is = command_by_takes (octets_exactly 1 netfn) (octets_exactly 1 cmd) (octets_up_to 64 payload) item is
 commands_take (netfn ∷ cmd ∷ payload ∷ other ∷ more) item is = absurd (cc is)
 
+frame_by_takes : (from : Option Address) (octets : Option (List ℕ)) (item : Item) → frame_by from octets ≡ Some item → step_in item ≡ Takes
+frame_by_takes (Some from) (Some octets) item is = let same : Frame from octets ≡ item = cc is in ap step_in (sym same)
+frame_by_takes (Some from) None item is = absurd (cc is)
+frame_by_takes None octets item is = absurd (cc is)
+
+frames_take : (words : List (List ℕ)) (item : Item) → frame_of words ≡ Some item → step_in item ≡ Takes
+frames_take [] item is = absurd (cc is)
+frames_take (from ∷ []) item is = absurd (cc is)
+frames_take (from ∷ octets ∷ []) item is = frame_by_takes (address_of from) (octets_up_to 512 octets) item is
+frames_take (from ∷ octets ∷ other ∷ more) item is = absurd (cc is)
+
 alone_takes : (what item : Item) (words : List (List ℕ)) → step_in what ≡ Takes → alone what words ≡ Some item → step_in item ≡ Takes
 alone_takes what item [] of_it is = let same : what ≡ item = cc is in ap step_in (sym same) ∙ of_it
 alone_takes what item (word ∷ words) of_it is = absurd (cc is)
 
 takes : (words : List (List ℕ)) (item : Item) → item_of_words words ≡ Some item → step_in item ≡ Takes
 takes [] item is = absurd (cc is)
-takes (first ∷ words) item is = by (bytes_eq first (codes "event")) (bytes_eq first (codes "cmd")) (bytes_eq first (codes "tick")) (bytes_eq first (codes "power")) is
+takes (first ∷ words) item is = by (bytes_eq first (codes "event")) (bytes_eq first (codes "cmd")) (bytes_eq first (codes "frame")) (bytes_eq first (codes "tick")) (bytes_eq first (codes "power")) is
   where
-    by : (a b c d : Bool) → (if a then event_of words else if b then command_of words else if c then alone Tick words else if d then alone Power words else None) ≡ Some item → step_in item ≡ Takes
-    by true b c d e = events_take words item e
-    by false true c d e = commands_take words item e
-    by false false true d e = alone_takes Tick item words refl e
-    by false false false true e = alone_takes Power item words refl e
-    by false false false false e = absurd (cc e)
+    by : (a b f c d : Bool) → (if a then event_of words else if b then command_of words else if f then frame_of words else if c then alone Tick words else if d then alone Power words else None) ≡ Some item → step_in item ≡ Takes
+    by true b f c d e = events_take words item e
+    by false true f c d e = commands_take words item e
+    by false false true c d e = frames_take words item e
+    by false false false true d e = alone_takes Tick item words refl e
+    by false false false false true e = alone_takes Power item words refl e
+    by false false false false false e = absurd (cc e)
 
 -- a controller takes items as its scripts say
 pub controller_scripted : IsScripted controller_rules controller_scripts

@@ -1,5 +1,6 @@
 -- How many steps may still be issued before the next item. Of the alert that is open at most the transmissions that are due now, for a
--- retry waits for a tick; of each alert behind it one; and so 18 at most for a record: its act, 16 alerts and the OEM action.
+-- retry waits for a tick; of each alert behind it one; and so 18 at most for a record: its act, 16 alerts and the OEM action. Each reply to
+-- a frame is one more.
 use Rattle.std.specs.Prelude.{ℕ, ◌+◌, ◌-◌, ◌*◌, length, Option, Some, None, if◌then◌else◌}
 use Rattle.lan_dest.specs.Attempts.{sends}
 use Rattle.pef_match.specs.Parts.{Parts}
@@ -41,4 +42,4 @@ now_left None mark records = 18 * (records - mark)
 now_left (Some r) mark records = part_left r.work.job r.part + 18 * (records - mark_behind r.work.number mark)
 
 abbrev pub left : Values → ℕ
-left v = now_left v.now.running v.now.mark (length v.records)
+left v = length v.replies + now_left v.now.running v.now.mark (length v.records)

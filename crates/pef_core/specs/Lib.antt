@@ -15,3 +15,4 @@ pub mod View
 pub mod Entries
 pub mod Laws
 pub mod Promises
+pub mod Arriving

@@ -1,7 +1,8 @@
--- What each entry of a history did, the latest first: its past. An event or a command that was refused changed nothing. What stands
--- after a history is read off its past alone.
-use Rattle.std.specs.Prelude.{ℕ, ◌+◌, ◌-◌, ◌==◌, List, [], ◌∷◌, ◌++◌, Option, Some, None, option_map, is_some, if◌then◌else◌}
+-- What each entry of a history did, the latest first: its past. An event, a command or a frame that was refused changed nothing. What
+-- stands after a history is read off its past alone.
+use Rattle.std.specs.Prelude.{ℕ, ◌+◌, ◌-◌, ◌==◌, List, [], ◌∷◌, ◌++◌, drop, Option, Some, None, option_map, is_some, if◌then◌else◌}
 use Rattle.std.specs.Int.{bit_at}
+use Rattle.board_core.specs.declared.step.Step.{Step}
 use Rattle.board_core.specs.declared.step.Told.{Told}
 use Rattle.event_record.specs.Fields.{octet, record_id}
 use Rattle.lan_dest.specs.Parameters as lan
@@ -32,16 +33,19 @@ pub data Effect : Type 0 where
   Sends : Target → List ℕ → Effect
   StatusCleared : Effect
 
--- An event record joined the log, or was refused for a reason; a command got its reply; a script was opened or closed; a second
--- passed; the power was cycled; a step had its outcome.
+-- An event record joined the log, or was refused for a reason; a command got its reply; a frame is answered by these datagrams, or by none,
+-- and acknowledged this trap, or none; a script was opened or closed; a second passed; the power was cycled; a step had its outcome; a reply
+-- to a frame had its own.
 pub data Deed : Type 0 where
   Logged : List ℕ → Deed
   Dropped : Note → Deed
   Replied : List ℕ → Effect → Deed
+  Framed : List Step → Option PetAck → Deed
   Passed : Deed
   Ticked : Deed
   Powered : Deed
   WasTold : Told → Deed
+  ReplySent : Deed
 
 abbrev pub effect_of : Deed → Effect
 effect_of (Replied octets effect) = effect
@@ -170,10 +174,11 @@ abbrev pub acked_in : Effect → Option PetAck
 acked_in (Acked ack) = Some ack
 acked_in effect = None
 
--- what of a deed counts for a job that runs
+-- what of a deed counts for a job that runs; the outcome of a reply to a frame doesn't
 abbrev pub counts_of : Deed → Option Counts
 counts_of Ticked = Some Second
 counts_of (Replied octets effect) = option_map Ack (acked_in effect)
+counts_of (Framed replies ack) = option_map Ack ack
 counts_of (WasTold told) = Some (Heard told)
 counts_of deed = None
 
@@ -182,6 +187,7 @@ abbrev pub note_with : Deed → Note → Note
 note_with (Logged event) before = Added (record_id event)
 note_with (Dropped why) before = why
 note_with (WasTold told) before = before
+note_with ReplySent before = before
 note_with deed before = Nothing
 
 abbrev pub note : List Deed → Note
@@ -192,8 +198,19 @@ note (deed ∷ past) = note_with deed (note past)
 abbrev pub reply_with : Deed → Option (List ℕ) → Option (List ℕ)
 reply_with (Replied octets effect) before = Some octets
 reply_with (WasTold told) before = before
+reply_with ReplySent before = before
 reply_with deed before = None
 
 abbrev pub reply : List Deed → Option (List ℕ)
 reply [] = None
 reply (deed ∷ past) = reply_with deed (reply past)
+
+-- the replies to the last frame that aren't sent yet, the next one in front
+abbrev pub replies_with : Deed → List Step → List Step
+replies_with (Framed replies ack) before = replies
+replies_with ReplySent before = drop 1 before
+replies_with deed before = before
+
+abbrev pub replies : List Deed → List Step
+replies [] = []
+replies (deed ∷ past) = replies_with deed (replies past)

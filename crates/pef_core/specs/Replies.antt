@@ -9,9 +9,8 @@ use Rattle.pef_commands.specs.declared.command.Command as command
 use Rattle.pef_commands.specs.declared.command.Command.TheVariants as commands
 use Rattle.pef_commands.specs.Parsing.{parsed}
 use Rattle.pef_commands.specs.Request.{Asked}
-use Rattle.lan_dest.specs.Parameters as lan
 use Rattle.lan_dest.specs.Rows as lan_rows
-use Rattle.pef_config.specs.Places.{Tables, our_sizes, write}
+use Rattle.pef_config.specs.Places.{our_sizes, write}
 use Rattle.pef_config.specs.Rows.{answer_if, set_code, get_reply}
 use Rattle.pef_match.specs.declared.target.Target.{Target}
 use Rattle.pef_match.specs.AtOnce.{target_at_once}

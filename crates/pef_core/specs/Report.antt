@@ -2,16 +2,20 @@
 use Rattle.std.specs.Prelude.{ℕ, List, [], ◌∷◌, ◌++◌, Option, Some, None, option_map, bytes_eq, if◌then◌else◌, codes, decimal, slice_index}
 use Rattle.std.specs.Int.{to_be_bytes, w16, w32}
 use Rattle.hex.specs.Hex.{encode_lower}
+use Rattle.board_core.specs.declared.step.Address.{Address}
 use Rattle.event_record.specs.declared.fault.RecordFault.TheVariants.{ReservedId, Kind}
 use Rattle.event_record.specs.declared.fault.LogFault.TheVariants.{Duplicate, Full}
 use Rattle.pef_commands.specs.Request.{request_of}
+use Rattle.frame_answers.specs.declared.kind.FrameKind.{FrameKind}
+use Rattle.frame_answers.specs.declared.kind.FrameKind.TheVariants as kinds
+use Rattle.frame_answers.specs.Answers.{kind_of}
 use Rattle.pef_engine.specs.declared.entry.Entry.{Entry}
 use Rattle.pef_engine.specs.declared.script.ScriptStep.{ScriptStep}
 use Rattle.pef_engine.specs.declared.script.ScriptStep.TheVariants.{Opens, Takes, Closes}
 use Rattle.pef_engine.specs.Scripts.{ScriptRules}
-use Rattle.script_text.specs.Forms.{words_of, octets_exactly, octets_up_to}
+use Rattle.script_text.specs.Forms.{words_of, octets_exactly, octets_up_to, address_of}
 use Rattle.pef_core.specs.declared.item.Item.{Item}
-use Rattle.pef_core.specs.declared.item.Item.TheVariants.{Event, Command, Tick, Power, Open, Close}
+use Rattle.pef_core.specs.declared.item.Item.TheVariants.{Event, Command, Frame, Tick, Power, Open, Close}
 use Rattle.pef_core.specs.declared.note.Note.{Note}
 use Rattle.pef_core.specs.declared.note.Note.TheVariants.{Added, Refused, NotAdded, Nothing}
 use Rattle.pef_core.specs.Past.{note, reply}
@@ -36,6 +40,12 @@ abbrev pub reply_line : Option (List ℕ) → List ℕ
 reply_line None = []
 reply_line (Some octets) = codes "reply " ++ encode_lower octets ++ codes "\n"
 
+-- the line of a frame: a pong is due, an answer is due, or it has no effect
+abbrev pub frame_line : FrameKind → List ℕ
+frame_line kinds.Ping = codes "frame ping\n"
+frame_line kinds.Command = codes "frame command\n"
+frame_line kinds.Nothing = codes "frame none\n"
+
 abbrev pub open_line : ℕ → ℕ → List ℕ
 open_line id count = codes "open " ++ encode_lower (to_be_bytes w32 id) ++ codes " " ++ decimal count ++ codes "\n"
 
@@ -43,6 +53,7 @@ open_line id count = codes "open " ++ encode_lower (to_be_bytes w32 id) ++ codes
 abbrev pub line_by : Values → Item → List ℕ
 line_by v (Event octets) = note_line (note (item_deed v (Event octets) ∷ []))
 line_by v (Command asked) = reply_line (reply (item_deed v (Command asked) ∷ []))
+line_by v (Frame from octets) = frame_line (kind_of octets)
 line_by v Tick = codes "tick\n"
 line_by v Power = codes "power\n"
 line_by v (Open id count) = open_line id count
@@ -72,6 +83,18 @@ command_of (netfn ∷ cmd ∷ []) = None
 command_of (netfn ∷ cmd ∷ payload ∷ []) = command_by (octets_exactly 1 netfn) (octets_exactly 1 cmd) (octets_up_to 64 payload)
 command_of (netfn ∷ cmd ∷ payload ∷ other ∷ more) = None
 
+abbrev pub frame_by : Option Address → Option (List ℕ) → Option Item
+frame_by (Some from) (Some octets) = Some (Frame from octets)
+frame_by (Some from) None = None
+frame_by None octets = None
+
+-- the sender's address and port, and 0 to 512 octets
+abbrev pub frame_of : List (List ℕ) → Option Item
+frame_of [] = None
+frame_of (from ∷ []) = None
+frame_of (from ∷ octets ∷ []) = frame_by (address_of from) (octets_up_to 512 octets)
+frame_of (from ∷ octets ∷ other ∷ more) = None
+
 -- nothing more
 abbrev pub alone : Item → List (List ℕ) → Option Item
 alone item [] = Some item
@@ -82,11 +105,12 @@ item_of_words [] = None
 item_of_words (first ∷ words) =
     if bytes_eq first (codes "event") then event_of words
     else if bytes_eq first (codes "cmd") then command_of words
+    else if bytes_eq first (codes "frame") then frame_of words
     else if bytes_eq first (codes "tick") then alone Tick words
     else if bytes_eq first (codes "power") then alone Power words
     else None
 
--- the item of a line: `event` and a record, `cmd` and a command, `tick`, or `power`
+-- the item of a line: `event` and a record, `cmd` and a command, `frame` with its sender and its octets, `tick`, or `power`
 abbrev pub item_of : List ℕ → Option Item
 item_of line = item_of_words (words_of line)
 
@@ -94,6 +118,7 @@ item_of line = item_of_words (words_of line)
 abbrev pub step_in : Item → ScriptStep
 step_in (Event octets) = Takes
 step_in (Command asked) = Takes
+step_in (Frame from octets) = Takes
 step_in Tick = Takes
 step_in Power = Takes
 step_in (Open id count) = Opens id count

@@ -1,5 +1,6 @@
 -- What stands after a past: all that a controller shows of its history.
 use Rattle.std.specs.Prelude.{ℕ, ◌+◌, ◌-◌, ◌*◌, ◌%◌, List, [], ◌∷◌, Option, Some, None}
+use Rattle.board_core.specs.declared.step.Step.{Step}
 use Rattle.lan_dest.specs.Parameters as lan
 use Rattle.pef_config.specs.Places.{Tables}
 use Rattle.pef_core.specs.declared.note.Note.{Note}
@@ -13,7 +14,7 @@ use Rattle.pef_core.specs.declared.turn.Turn.TheVariants.{ToAct, ToAlert, ToCall
 use Rattle.pef_core.specs.declared.work.Work.{Work}
 use Rattle.pef_core.specs.Counting.{all_seconds}
 use Rattle.pef_core.specs.Settings.{own_of}
-use Rattle.pef_core.specs.Past.{Deed, log, pef, lan_tables, ticks, delay, postpone, software, note, reply}
+use Rattle.pef_core.specs.Past.{Deed, log, pef, lan_tables, ticks, delay, postpone, software, note, reply, replies}
 use Rattle.pef_core.specs.Undertaking.{Undertaking, Cut, cut_of, turn_of, alert_at, sequence_behind}
 use Rattle.pef_core.specs.Course.{Course, Force, drawn_by, course}
 use Rattle.pef_core.specs.Running.{Running}
@@ -37,6 +38,7 @@ pub record Values : Type 0 where
   pub software : ℕ
   pub note : Note
   pub reply : Option (List ℕ)
+  pub replies : List Step
   pub now : Now
 
 -- the time-stamp after so many seconds, in hundredths of a second, of 32 bits (RFC 1157, section 4.1.6)
@@ -84,6 +86,7 @@ values Z past = record {
   software = software past;
   note = note past;
   reply = reply past;
+  replies = replies past;
   now = now_of (ticks past) (course Z past);
 }
 

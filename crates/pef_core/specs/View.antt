@@ -12,7 +12,7 @@ use Rattle.pef_core.specs.declared.controller.Controller.{Controller}
 use Rattle.pef_core.specs.Values.{Values}
 use Rattle.pef_core.specs.Deeds.{standing}
 use Rattle.pef_core.specs.Left.{left}
-use Rattle.pef_core.specs.Histories.{IsItem, running_step}
+use Rattle.pef_core.specs.Histories.{IsItem, due_in}
 use Rattle.pef_core.specs.Report.{step_in, controller_scripts}
 
 -- what a controller holds
@@ -28,6 +28,7 @@ shown c = record {
   software = c.software;
   note = c.note;
   reply = c.reply;
+  replies = c.replies;
   now = record { running = c.running; mark = c.mark; sequence = c.sequence; status = c.status };
 }
 
@@ -36,9 +37,9 @@ pub record ShowsController (controller : Controller) (Z : List ℕ) (H : List (E
   pub values_are : shown controller ≡ standing Z H
   pub script_is : controller.script ≡ script_of controller_scripts H
 
--- the step of the job that runs
+-- the step that is due
 abbrev pub due_of : Controller → Option Step
-due_of controller = running_step controller.own controller.running
+due_of controller = due_in (shown controller)
 
 abbrev pub AllowedBy : Controller → Entry Item → Type 0
 AllowedBy controller (Taken item) = (due_of controller ≡ None) × (MayCome controller.script (step_in item) × IsItem item)

@@ -16,8 +16,9 @@ use crate::running::Running;
 use crate::turn::Turn;
 use crate::turns::first_turn;
 use crate::work::Work;
-use board_core::{Octets, Told};
+use board_core::{Address, Octets, Step, Told};
 use event_record::Log;
+use frame_answers::{Replies, answered};
 use lan_dest::Lan;
 use pef_config::{Config, Initial};
 use pef_engine::{Entry, Script, script_behind};
@@ -49,6 +50,8 @@ pub struct Controller {
     pub(crate) script: Option<Script>,
     note: Note,
     reply: Option<Octets>,
+    /// The replies to the last frame that aren't sent yet.
+    replies: Replies,
 }
 
 impl Controller {
@@ -56,12 +59,13 @@ impl Controller {
     ghost use Rattle.pef_config.specs.Kept.{tables};
     ghost use Rattle.pef_engine.specs.Scripts.{MayCome, script_with, script_from};
     ghost use Rattle.pef_core.specs.Settings.{initial_of, own_of};
-    ghost use Rattle.pef_core.specs.Deeds.{item_deed, deed, standing};
+    ghost use Rattle.pef_core.specs.Deeds.{item_deed, told_deed, deed, standing};
     ghost use Rattle.pef_core.specs.After.{with_deed, with_next_job, begun, begins, counted_now, work_of};
     ghost use Rattle.pef_core.specs.Past.{Ticked, Powered, WasTold};
     ghost use Rattle.pef_core.specs.Running.{IsTurn, MayCountNow};
     ghost use Rattle.pef_core.specs.Left.{left};
-    ghost use Rattle.pef_engine.specs.Rules.{IsOutcome};
+    ghost use Rattle.pef_engine.specs.Rules.{IsOutcome, Lawful};
+    ghost use Rattle.pef_core.specs.Histories.{controller_rules};
     ghost use Rattle.pef_core.specs.Values.{stamp_at, force_of};
     ghost use Rattle.pef_core.specs.Course.{guid_by, is_enabled, may_begin};
     ghost use Rattle.pef_core.specs.Report.{step_in, controller_scripts};
@@ -89,6 +93,7 @@ impl Controller {
             script: None,
             note: Note::Nothing,
             reply: None,
+            replies: Replies::new(),
         })
     }
 
@@ -106,11 +111,13 @@ impl Controller {
         self.reply.as_ref()
     }
 
-    /// At most 18 steps are left before the next item for each record that isn't processed: its act, 16 alerts and the OEM action; and one
-    /// of an alert at once. Each outcome leaves fewer (`apply`). This does nothing when it runs.
+    /// At most 18 steps are left before the next item for each record that isn't processed: its act, 16 alerts and the OEM action; and 2
+    /// beside them, of an alert at once and of replies to a frame. Each outcome leaves fewer (`apply`). This does nothing when it runs.
     pub fn has_few_steps_left(&self)
-        ensures { (Z : List ℕ) (H : List (Entry Item)) → ShowsController self.now Z H
-            → left (shown self.now) ≤ 18 * (length self.now.log - self.now.mark) + 1 }
+        ensures moment { (Z : List ℕ) (H : List (Entry Item)) → ShowsController self.now Z H
+            → left (shown self.now) ≤ 18 * (length self.now.log - self.now.mark) + 1 + length self.now.replies }
+        ensures bound { (Z : List ℕ) (H : List (Entry Item)) → Lawful controller_rules Z H → ShowsController self.now Z H
+            → left (shown self.now) ≤ 18 * (length self.now.log - self.now.mark) + 2 }
     {
         if let Some(running) = &self.running {
             running.is_open();
@@ -141,6 +148,7 @@ impl Controller {
         match item {
             Item::Event(octets) => self.log_event(octets),
             Item::Command(request) => self.answer(request),
+            Item::Frame { from, octets } => self.frame(*from, octets),
             Item::Tick => self.tick(),
             Item::Power => self.power(),
             Item::Open { .. } | Item::Close => self.say_nothing(),
@@ -165,6 +173,20 @@ impl Controller {
         self.postpone = one_second_less(self.postpone);
         self.say_nothing();
         self.count(&Counts::Second);
+    }
+
+    // A frame is answered, and what it acknowledges counts for what runs.
+    fn frame(&mut self, from: Address, octets: &Octets)
+        requires { due_of self.old ≡ None }
+        ensures values { shown self.new ≡ with_deed (item_deed (shown self.old) (Item.Frame from octets.now)) (shown self.old) }
+        ensures script { self.new.script ≡ self.old.script }
+    {
+        let answered = answered(from, octets.as_slice());
+        self.replies = answered.replies;
+        self.say_nothing();
+        if let Some(ack) = answered.ack {
+            self.count(&Counts::Ack(ack));
+        }
     }
 
     fn power(&mut self)
@@ -194,9 +216,24 @@ impl Controller {
         self.reply = Some(reply);
     }
 
-    // The step that was due had its outcome.
+    // The step that was due had its outcome. That of a reply counts for nothing.
     fn hear(&mut self, told: Told)
         requires { IsSome (due_of self.old) }
+        ensures values { shown self.new ≡ with_deed (told_deed (shown self.old).replies told) (shown self.old) }
+        ensures script { self.new.script ≡ self.old.script }
+        ensures fewer { left (shown self.new) < left (shown self.old) }
+    {
+        if self.replies.is_empty() {
+            self.hear_of_step(told);
+        } else {
+            self.replies.drop_first();
+        }
+    }
+
+    // The step of what runs had its outcome.
+    fn hear_of_step(&mut self, told: Told)
+        requires none { self.old.replies ≡ [] }
+        requires due { IsSome (due_of self.old) }
         ensures values { shown self.new ≡ with_deed (WasTold told) (shown self.old) }
         ensures script { self.new.script ≡ self.old.script }
         ensures fewer { left (shown self.new) < left (shown self.old) }
@@ -290,6 +327,19 @@ impl Controller {
         ensures { result ≡ guid_by (force_of (shown self.now)) }
     {
         self.config.guid().unwrap_or(self.own.guid)
+    }
+
+    /// The step that is due: a reply to the last frame, else that of what runs.
+    pub(crate) fn due(&self) -> Option<Step>
+        ensures { result ≡ due_of self.now }
+    {
+        if let Some(reply) = self.replies.first() {
+            return Some(reply);
+        }
+        match &self.running {
+            Some(running) => running.step(&self.own),
+            None => None,
+        }
     }
 
     // Begins the first job with a part among the records behind the mark, and passes over those for which nothing is to be done.

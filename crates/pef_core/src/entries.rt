@@ -2,10 +2,10 @@
 ghost use Rattle.std.specs.Prelude.{◌≡◌, ◌≢◌, ◌≤◌, ◌++◌, [], ◌∷◌, true, false, length};
 ghost use Rattle.pef_engine.specs.Rules.{Decodes};
 ghost use Rattle.pef_core.specs.Histories.{encode, controller_rules};
-ghost use Rattle.pef_core.specs.Entries.{marked, ReadsEvent, ReadsCommand};
+ghost use Rattle.pef_core.specs.Entries.{marked, ReadsEvent, ReadsCommand, ReadsFrame};
 
 use crate::item::Item;
-use board_core::Payload;
+use board_core::{Address, Octets, Payload, octets_of};
 use pef_commands::Request;
 use pef_engine::{Entry, Mark, read_mark, write_mark};
 
@@ -16,6 +16,8 @@ const COMMAND: u8 = 0x02;
 const TICK: u8 = 0x03;
 
 const POWER: u8 = 0x04;
+
+const FRAME: u8 = 0x07;
 
 /// The octets of the entry: its tag, and then what it says.
 pub(crate) fn encode(entry: &Entry<Item>) -> Payload
@@ -29,6 +31,7 @@ pub(crate) fn encode(entry: &Entry<Item>) -> Payload
                 request.payload(),
             )
         }
+        Entry::Item(Item::Frame { from, octets }) => frame(*from, octets),
         Entry::Item(Item::Tick) => tagged(&[TICK], &[]),
         Entry::Item(Item::Power) => tagged(&[POWER], &[]),
         Entry::Item(Item::Open { id, count }) => write_mark(Mark::Open {
@@ -52,6 +55,19 @@ fn tagged(front: &[u8], octets: &[u8]) -> Payload
     payload
 }
 
+// The octets of a frame: its tag, its sender's address and port, and what it holds.
+fn frame(from: Address, octets: &Octets) -> Payload
+    ensures { result ≡ encode (Entry.Item (Item.Frame from octets.now)) }
+{
+    octets.fits();
+    let mut payload = Payload::new();
+    payload.push(FRAME);
+    payload.extend(&from.ip);
+    payload.extend(&from.port.to_le_bytes());
+    payload.extend(octets.as_slice());
+    payload
+}
+
 /// The entry whose octets these are, and None where they are those of none.
 pub(crate) fn decode(octets: &[u8]) -> Option<Entry<Item>>
     ensures { Decodes controller_rules octets.now result }
@@ -61,6 +77,9 @@ pub(crate) fn decode(octets: &[u8]) -> Option<Entry<Item>>
     }
     if let Some(request) = command_in(octets) {
         return Some(Entry::Item(Item::Command(request)));
+    }
+    if let Some((from, octets)) = frame_in(octets) {
+        return Some(Entry::Item(Item::Frame { from, octets }));
     }
     if is_tag(octets, TICK) {
         return Some(Entry::Item(Item::Tick));
@@ -112,6 +131,22 @@ fn command_in(octets: &[u8]) -> Option<Request>
 {
     match octets {
         [COMMAND, netfn, cmd, payload @ ..] => Request::read(*netfn, *cmd, payload),
+        _ => None,
+    }
+}
+
+// The sender and the octets of the frame whose entry these octets are.
+fn frame_in(octets: &[u8]) -> Option<(Address, Octets)>
+    ensures { ReadsFrame octets.now result }
+{
+    match octets {
+        [FRAME, a, b, c, d, low, high, octets @ ..] => {
+            let from = Address {
+                ip: [*a, *b, *c, *d],
+                port: u16::from_le_bytes([*low, *high]),
+            };
+            Some((from, octets_of(octets)?))
+        }
         _ => None,
     }
 }

@@ -3,6 +3,7 @@ ghost use Rattle.std.specs.Prelude.{◌≡◌, length};
 ghost use Rattle.pef_core.specs.Report.{step_in};
 ghost use Rattle.pef_core.specs.Histories.{IsItem, IsRequest};
 
+use board_core::{Address, Octets};
 use pef_commands::Request;
 use pef_engine::ScriptStep;
 
@@ -13,6 +14,9 @@ pub enum Item {
     Event([u8; 16]),
     /// A command, which is answered (IPMI 2.0, chapters 23 and 30).
     Command(Request),
+    /// An RMCP frame that came from this address (ASF 2.0, section 3.2; IPMI 2.0, chapter 13): a ping, an acknowledgement, or one that
+    /// has no effect.
+    Frame { from: Address, octets: Octets },
     /// One second passed.
     Tick,
     /// The board's power was cycled, which clears what is volatile and sets the startup delay.
@@ -37,6 +41,10 @@ pub(crate) fn step_in(item: &Item) -> ScriptStep
             is_request(request);
             ScriptStep::Takes
         }
+        Item::Frame { from, octets } => {
+            is_frame(*from, octets);
+            ScriptStep::Takes
+        }
         Item::Tick | Item::Power => ScriptStep::Takes,
         Item::Open { id, count } => ScriptStep::Opens {
             id: *id,
@@ -46,7 +54,7 @@ pub(crate) fn step_in(item: &Item) -> ScriptStep
     }
 }
 
-// Facts for proofs: an event has 16 octets, and a request has its ranges.
+// Facts for proofs: an event has 16 octets, a request has its ranges, and so has a frame.
 fn is_event(octets: &[u8; 16])
     ensures { length octets.now ≡ 16 }
 {
@@ -58,4 +66,11 @@ fn is_request(request: &Request)
 {
     let _ = request.netfn();
     let _ = request.payload();
+}
+
+/// The address of a frame has four octets and a port of 16 bits, and a frame at most 512 octets.
+pub(crate) fn is_frame(from: Address, octets: &Octets)
+    ensures { IsItem (Item.Frame from octets.now) }
+{
+    octets.fits();
 }

@@ -1,6 +1,7 @@
 //! The controller of Platform Event Filtering as a machine over its history.
 #![tactic(auto)]
 
+mod arriving;
 mod commands;
 mod controller;
 mod counts;

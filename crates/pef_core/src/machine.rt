@@ -64,10 +64,7 @@ impl Machine for Controller {
     }
 
     fn next(&self) -> Option<Step> {
-        match &self.running {
-            Some(running) => running.step(&self.own),
-            None => None,
-        }
+        self.due()
     }
 
     fn encode_entry(entry: &Entry<Item>) -> Payload {

@@ -2,7 +2,7 @@
 ghost use Rattle.std.specs.Prelude.{◌≡◌, ◌++◌, ◌≤◌, [], ◌∷◌, length, codes, option_copied};
 ghost use Rattle.report_line.specs.Line.{line_end};
 ghost use Rattle.script_text.specs.Forms.{words_of, octets_exactly, octets_up_to};
-ghost use Rattle.pef_core.specs.Report.{controller_scripts, note_line, reply_line, open_line, item_of, item_of_words, event_of, command_of, command_by, id_digits};
+ghost use Rattle.pef_core.specs.Report.{controller_scripts, note_line, reply_line, frame_line, open_line, item_of, item_of_words, event_of, command_of, command_by, frame_of, id_digits};
 ghost use Rattle.pef_core.specs.Laws.{controller_scripted};
 
 use crate::controller::Controller;
@@ -10,10 +10,11 @@ use crate::item::Item;
 use crate::note::Note;
 use board_core::Octets;
 use event_record::{LogFault, RecordFault};
+use frame_answers::{FrameKind, kind_of};
 use pef_commands::Request;
 use pef_engine::{Script, Scripted};
 use report_line::{LineBuilder, ReportLine};
-use script_text::{first_word, octets_exactly, octets_up_to};
+use script_text::{address, first_word, octets_exactly, octets_up_to};
 
 impl Scripted for Controller {
     ghost scripts = { controller_scripts };
@@ -44,6 +45,7 @@ impl Scripted for Controller {
         match item {
             Item::Event(_) => note_text(self.note()),
             Item::Command(_) => reply_text(self.reply()),
+            Item::Frame { octets, .. } => frame_text(kind_of(octets.as_slice())),
             Item::Tick => LineBuilder::new().text(b"tick").end(),
             Item::Power => LineBuilder::new().text(b"power").end(),
             Item::Open { id, count } => open_text(*id, *count),
@@ -52,7 +54,7 @@ impl Scripted for Controller {
     }
 }
 
-// The item of a line `event RECORD`, `cmd NETFN COMMAND OCTETS`, `tick` or `power`.
+// The item of a line `event RECORD`, `cmd NETFN COMMAND OCTETS`, `frame ADDRESS OCTETS`, `tick` or `power`.
 fn read_item(line: &[u8]) -> Option<Item>
     ensures { result ≡ item_of line.now }
 {
@@ -84,6 +86,8 @@ fn item_with(word: &[u8], rest: &[u8]) -> Option<Item>
         event_of(rest)
     } else if word == b"cmd".as_slice() {
         command_of(rest)
+    } else if word == b"frame".as_slice() {
+        frame_of(rest)
     } else {
         None
     }
@@ -123,6 +127,21 @@ fn command_with(netfn: &[u8], cmd: &[u8], payload: &[u8]) -> Option<Item>
     Some(Item::Command(Request::read(netfn, cmd, payload.as_slice())?))
 }
 
+// The item of the words behind `frame`: the sender's address and port, and the octets.
+fn frame_of(words: &[u8]) -> Option<Item>
+    ensures { result ≡ frame_of (words_of words.now) }
+{
+    let (from, rest) = first_word(words);
+    let (octets, rest) = first_word(rest?);
+    if rest.is_some() {
+        return None;
+    }
+    Some(Item::Frame {
+        from: address(from)?,
+        octets: octets_up_to::<512>(octets)?,
+    })
+}
+
 // A word, and an ID in four digits behind it.
 fn id_text(word: &[u8], id: u16) -> ReportLine
     requires { length word.now ≤ 40 }
@@ -147,6 +166,16 @@ fn note_text(note: Note) -> ReportLine
         Note::NotAdded(LogFault::Duplicate(id)) => id_text(b"event duplicate ", id),
         Note::NotAdded(LogFault::Full) => LineBuilder::new().text(b"event full").end(),
         Note::Nothing => ReportLine::new(),
+    }
+}
+
+fn frame_text(kind: FrameKind) -> ReportLine
+    ensures { result ≡ frame_line kind }
+{
+    match kind {
+        FrameKind::Ping => LineBuilder::new().text(b"frame ping").end(),
+        FrameKind::Command => LineBuilder::new().text(b"frame command").end(),
+        FrameKind::Nothing => LineBuilder::new().text(b"frame none").end(),
     }
 }
 

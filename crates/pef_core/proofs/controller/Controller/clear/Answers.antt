@@ -1,6 +1,6 @@
-use Rattle.std.proofs.Common.{◌≡◌, ℕ, Bool, true, false, cond, List, [], ◌∷◌, Option, Some, None, refl, sym, ◌∙◌, ap, subst, length}
-use Rattle.std.specs.Prelude.{◌&&◌, ◌||◌, nat_lt, not, is_some}
-use Rattle.pef_core.specs.Replies.{cleared, refusal, Answer}
+use Rattle.std.proofs.Common.{◌∷◌, Some, sym, ◌∙◌, ap, length}
+use Rattle.std.specs.Prelude.{◌||◌, nat_lt, is_some}
+use Rattle.pef_core.specs.Replies.{cleared, Answer}
 use Rattle.pef_core.specs.Past.{Cleared}
 use Rattle.pef_core.specs.declared.note.Note.TheVariants.{Nothing}
 use Rattle.pef_core.specs.View.{shown}

@@ -1,5 +1,4 @@
-use Rattle.std.proofs.Common.{◌≡◌, ℕ, Bool, true, false, cond, List, [], ◌∷◌, Option, Some, None, refl, sym, ◌∙◌, ap, subst, length}
-use Rattle.std.specs.Prelude.{◌&&◌, ◌||◌, nat_lt, not, is_some}
+use Rattle.std.proofs.Common.{[], ◌∷◌, Some, refl, sym, ◌∙◌, ap}
 use Rattle.pef_core.specs.Replies.{done_with, runs_alert}
 use Rattle.pef_core.specs.Past.{StatusCleared}
 use Rattle.pef_core.specs.View.{shown}

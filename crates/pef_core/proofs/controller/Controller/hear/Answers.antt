@@ -1,17 +1,12 @@
-use Rattle.std.proofs.Common.{◌<◌, sym, subst}
-use Rattle.pef_core.specs.Left.{left}
+use Rattle.std.proofs.Common.{◌∙◌, ap}
 use Rattle.pef_core.specs.View.{shown}
-use Rattle.pef_core.proofs.LeftSteps.{none_due, may_hear, outcome_leaves_fewer}
+use Rattle.pef_core.proofs.Deeds.{hears_reply, hears_step}
 use Rattle.pef_core.proofs.controller.Controller.hear.Goals as goal
 
-pub returns-in_default : goal.returns-in_default
-returns-in_default c = absurd (none_due c.args.self.now.own c.args.self.now.running c.in_default.is c.requires)
+pub returns-then-is_empty-clause-values : goal.returns-then-is_empty-clause-values
+returns-then-is_empty-clause-values c = c.hear_of_step.ensures.values ∙ hears_step (shown c.args.self.now) c.args.told (c.is_empty.ensures.0 c.if-is_empty.true)
 
-pub returns-clause-values : goal.returns-clause-values
-returns-clause-values c = c.count.ensures.values
-
-pub returns-clause-fewer : goal.returns-clause-fewer
-returns-clause-fewer c =
+pub returns-else-is_empty-clause-values : goal.returns-else-is_empty-clause-values
+returns-else-is_empty-clause-values c =
     let self = c.args.self.now in
-    subst (λ v. left v < left (shown self)) (sym c.count.ensures.values)
-    (outcome_leaves_fewer c.args.told (shown self) c.in-Some.running c.in-Some.is c.is_open.ensures (may_hear self.own c.args.told self.running c.in-Some.running c.in-Some.is c.requires))
+    ap (λ r. shown (record self { replies = r })) c.drop_first.ensures ∙ hears_reply (shown self) c.args.told (λ none. absurd (cc (c.is_empty.ensures.1 none, c.if-is_empty.false)))

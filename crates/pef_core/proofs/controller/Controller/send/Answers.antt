@@ -1,5 +1,5 @@
-use Rattle.std.proofs.Common.{◌≡◌, ℕ, Bool, true, false, cond, List, [], ◌∷◌, Option, Some, None, refl, sym, ◌∙◌, ap, subst, length}
-use Rattle.std.specs.Prelude.{◌&&◌, ◌||◌, nat_lt, not, is_some}
+use Rattle.std.proofs.Common.{ℕ, [], ◌∷◌, Option, Some, sym, ◌∙◌, ap}
+use Rattle.std.specs.Prelude.{is_some}
 use Rattle.pef_core.specs.Replies.{send_to, is_no_string, done_with}
 use Rattle.pef_config.specs.Places.{our_sizes}
 use Rattle.pef_match.specs.AtOnce.{target_at_once}

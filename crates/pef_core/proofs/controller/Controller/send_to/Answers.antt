@@ -1,13 +1,10 @@
-use Rattle.std.proofs.Common.{◌≡◌, ℕ, Bool, true, false, cond, List, [], ◌∷◌, Option, Some, None, refl, sym, ◌∙◌, ap, subst, length}
-use Rattle.std.specs.Prelude.{◌&&◌, ◌||◌, nat_lt, not, is_some}
-use Rattle.std.specs.Prelude.{IfSome}
-use Rattle.pef_match.specs.AtOnce.{at_once}
+use Rattle.std.proofs.Common.{Some, None, sym, ◌∙◌, ap, subst}
 use Rattle.pef_core.specs.declared.controller.Controller.{Controller}
 use Rattle.pef_core.specs.declared.turn.Turn.TheVariants.{ToAlert}
 use Rattle.pef_core.specs.declared.work.Work.{Work}
 use Rattle.pef_core.specs.Running.{IsTurn}
 use Rattle.pef_core.specs.Course.{guid_by}
-use Rattle.pef_core.specs.Values.{Values, stamp_at, force_of}
+use Rattle.pef_core.specs.Values.{stamp_at, force_of}
 use Rattle.pef_core.specs.After.{begins}
 use Rattle.pef_core.specs.View.{shown}
 use Rattle.pef_core.proofs.Deeds.{sends, first_turn_is}

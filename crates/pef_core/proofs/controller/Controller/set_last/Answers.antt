@@ -1,5 +1,5 @@
-use Rattle.std.proofs.Common.{◌≡◌, ℕ, Bool, true, false, cond, List, [], ◌∷◌, Option, Some, None, refl, sym, ◌∙◌, ap, subst, length}
-use Rattle.std.specs.Prelude.{◌&&◌, ◌||◌, nat_lt, not, is_some}
+use Rattle.std.proofs.Common.{ℕ, Bool, cond, [], ◌∷◌, Some, sym, ◌∙◌, ap}
+use Rattle.std.specs.Prelude.{◌&&◌, not}
 use Rattle.pef_core.specs.Replies.{Answer, refusal, done_with, runs_job, is_held}
 use Rattle.pef_config.specs.Rows.{answer_if}
 use Rattle.pef_core.specs.Past.{Marked, SoftwareMarked}

@@ -12,6 +12,10 @@ pub returns-in-Command-clause-values : goal.returns-in-Command-clause-values
 returns-in-Command-clause-values c =
     subst (λ item. shown c.answer.new.self ≡ with_deed (item_deed (shown c.args.self.now) item) (shown c.args.self.now)) (sym c.in-Command.is) c.answer.ensures.values
 
+pub returns-in-Frame-clause-values : goal.returns-in-Frame-clause-values
+returns-in-Frame-clause-values c =
+    subst (λ item. shown c.frame.new.self ≡ with_deed (item_deed (shown c.args.self.now) item) (shown c.args.self.now)) (sym c.in-Frame.is) c.frame.ensures.values
+
 pub returns-in-Tick-clause-values : goal.returns-in-Tick-clause-values
 returns-in-Tick-clause-values c =
     subst (λ item. shown c.tick.new.self ≡ with_deed (item_deed (shown c.args.self.now) item) (shown c.args.self.now)) (sym c.in-Tick.is) c.tick.ensures.values
