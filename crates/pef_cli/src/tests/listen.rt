@@ -314,7 +314,7 @@ fn a_crash_loses_at_most_the_arrival_at_hand(rt: HostRuntime) -> Result<(), Fail
 }
 
 // A path of this test alone in the folder for temporary files.
-fn path_of(rt: &HostRuntime, name: &str) -> Result<String, AllocError> {
+pub fn path_of(rt: &HostRuntime, name: &str) -> Result<String, AllocError> {
     let id = process::id(rt.process());
     match env::temp_dir(rt) {
         Ok(folder) => format!(in rt.alloc(); "{}/{name}-{id}", folder.display()),
