@@ -1,4 +1,4 @@
-"""A console that listens on loopback: acknowledgements on the wire, its address, its lock, kills, and a receive that fails."""
+"""Both roles on loopback: what they answer on the wire, and from where; their address, their lock, kills, and a receive that fails."""
 import ctypes
 import os
 import pathlib
@@ -10,6 +10,7 @@ import struct
 import subprocess
 import time
 
+import alerts
 from common import ANOTHER_CALL, Wrong, equal, opened
 from console import DONE, ack, arrived, header, trap
 from console import entry as entry_of
@@ -26,6 +27,7 @@ def check(make):
         failing(one, wire)
         refused(one)
         killed(one, wire)
+        answered(make)
 
 
 def console(make, port):
@@ -176,3 +178,49 @@ def killed(one, wire, rounds=50):
         equal(status, 0, "the status of list behind a signal")
         rows = {int(line.split()[2]) for line in out.splitlines()[:-1]}
         equal(acked - rows, set(), "acknowledged traps without a row")
+
+
+PING = bytes.fromhex("0600ff06000011be80000000")
+PONG = "0600ff06000011be40000010000011be000000008100000000000000"
+SEQUENCED = bytes.fromhex("06000506000011be80070000")
+ANSWER = "0600ff070000000000000000000881146b20041700c5"
+
+
+def answered(make):
+    """A controller's alert goes out from its address, and what comes there is answered from there."""
+    with socket.socket(socket.AF_INET, socket.SOCK_DGRAM) as wire:
+        wire.bind(("127.0.0.1", 0))
+        wire.settimeout(SECONDS)
+        port = wire.getsockname()[1]
+        here = f"127.0.0.1:{port}"
+        # two retries, two seconds apart
+        one = alerts.ready(make, port, "800102")
+        one.write("event", alerts.script(2, [alerts.EVENT]))
+        equal(one.run("run", "state", "event")[0], 0, "run with an alert")
+        sent, before = wire.recvfrom(1000)
+        call = Listening(one, 8, form="live")
+        equal(before[1] != call.port, True, "run sends from another socket")
+        equal(wire.recvfrom(1000), (sent, call.at), "the alert again, from the address of live")
+        said = f"send {here} {sent.hex()} done\n"
+        for octets, line, answers in (
+            (PING, "ping", [PONG]),
+            (SEQUENCED, "ping", ["06000586", "0600ff06000011be40070010000011be000000008100000000000000"]),
+            (b"", "none", []),
+            (ack(1), "command", [ANSWER]),
+        ):
+            wire.sendto(octets, call.at)
+            said += f"frame {line}\n" + "".join(f"send {here} {answer} done\n" for answer in answers)
+            for answer in answers:
+                equal(wire.recvfrom(1000), (bytes.fromhex(answer), call.at), "an answer, from the address of live")
+        closed_on_exec(call.child.pid)
+        status, out, err = call.ended()
+        # a second may pass between any two frames
+        equal((status, out.replace("tick\n", ""), err), (0, f"{said}ok 8\n", ""), "what live says")
+        equal(out.count("tick\n"), 4, "the seconds among eight arrivals")
+        wire.setblocking(False)
+        equal(arrived(wire), [], "what comes behind the acknowledgement")
+        one.write("begun", "script 00000003 2\ntick\n")
+        equal(one.run("run", "state", "begun")[0], 4, "a script without an end")
+        one.check((5, "unfinished 00000003 2\n", ""), "live", "state", "127.0.0.1:0", "1")
+        one.write("state", b"")
+        one.check((3, "unformatted\n", "state: not formatted as a controller's state file, from octet 0 on\n"), "live", "state", "127.0.0.1:0", "1")

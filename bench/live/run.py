@@ -6,6 +6,8 @@ It builds no Rattle: it takes crates/pef_cli/out/pef_cli, which ./demo at the to
 - `listen` gets traps from a sender that waits for the acknowledgement of each one, so nothing may be lost. Of each trap two entries are
   stored, with two syncs each, before the next one comes in; the loop (bench/run/appends.c) makes as many synced appends. The two take
   turns in rounds; the median of their ratios counts. DISK names the folder on the disk, else it is this repository.
+- A controller and a console, each a process at a port of its own: an event of the controller's script waits behind the postpone timer,
+  and then its alert goes out, is a row, is acknowledged, and the acknowledgement ends the alert, with no hand between.
 - A call that waits and gets nothing is to take no processor time but for its seconds.
 - Random octets, traps and frames with changed octets: no call ends by them, each one is reported, the ledger has the rows that were
   reported and no more, and memory stays as it was but for rows.
@@ -33,6 +35,7 @@ TRAP = bytes.fromhex(
     "000106efed80ffff202010203000005210200000000000ff0001869f0001c1"
 )
 SEQUENCE = 77
+GUID = "00112233-4455-6677-8899-aabbccddeeff"
 # the acknowledgement of that trap, and a presence ping
 FRAMES = [bytes.fromhex("0600ff07000000000000000000132010d0810417010080edef062020305210200f"), bytes.fromhex("0600ff06000011be80000000")]
 some = random.Random(1)
@@ -192,6 +195,55 @@ def attack(folder, count):
     )
 
 
+TABLES = """\
+cmd 04 12 060180010110ffff04ff010400000000000000000000
+cmd 04 12 0901181100
+cmd 0c 01 011201800502
+cmd 0c 01 01130100007f000001000000000000
+cmd 04 11 01
+event 01000200ca9a3b200004043001521020
+"""
+
+
+def controller(folder, port):
+    """A controller whose traps go to this port, which holds an event for a second."""
+    settings, state, script = folder / "board.toml", folder / "board", folder / "script"
+    settings.write_text(f'guid = "{GUID}"\nagent = "127.0.0.1"\npet_port = {port}\n')
+    script.write_text(f"script 00000001 6\n{TABLES}end\n")
+    state.write_bytes(b"")
+    for words, last in ((("init", state, settings), "ok 0"), (("run", state, script), "ok 8")):
+        done = subprocess.run([program, *words], capture_output=True, text=True)
+        check(done.stdout.splitlines()[-1:] == [last], f"{words[0]} says {done.stdout!r}")
+    return state
+
+
+def end_to_end(folder):
+    """An alert from its event to its acknowledgement between two processes: what the two reports say."""
+    at = free_port()
+    ledger = console(folder, at)
+    listens = Waiting("listen", ledger)
+    lives = Waiting("live", controller(folder, listens.at[1]), at)
+    start = time.perf_counter()
+    lines = []
+    while not lines or not lines[-1].startswith("frame "):
+        lines.append(lives.line())
+        check(lines[-1] != "" and len(lines) < 20, f"live says {lines}")
+    took = time.perf_counter() - start
+    lines.append(lives.line())
+    kinds = [line.split(" ", 1)[0].strip() for line in lines]
+    check(kinds.count("send") == 2 and kinds[-3:] == ["send", "frame", "send"], f"live says {lines}")
+    check(lines[-2] == "frame command\n", f"live says {lines}")
+    heard = [listens.line(), listens.line()]
+    check(heard[0] == "row 1\n" and heard[1].startswith(f"send 127.0.0.1:{at} "), f"listen says {heard}")
+    # the alert is over: its retries, 6 seconds apart, are not sent
+    later = [lives.line() for _ in range(8)]
+    check(later == ["tick\n"] * 8, f"live says {later}")
+    lives.end()
+    listens.end()
+    check(len(rows_of(ledger)) == 1, "the ledger hasn't the alert")
+    print(f"an alert between two processes, held for a second by its timer: a row, and acknowledged, {took:.2f} s after live began")
+
+
 def main():
     quick = sys.argv[1:] == ["--quick"]
     rounds, count, seconds, attacks = (1, 20, 1, 1500) if quick else (15, 150, 10, 100_000)
@@ -200,6 +252,7 @@ def main():
         memory, disk = pathlib.Path(memory), pathlib.Path(disk)
         loop = memory / "appends"
         subprocess.run(["/bin/gcc", "-O2", "-o", loop, top / "bench/run/appends.c"], check=True)
+        end_to_end(memory)
         rate(disk, loop, rounds, count)
         idle(memory, seconds)
         attack(memory, attacks)

@@ -3,7 +3,7 @@ use Rattle.std.specs.Prelude.{ℕ, nat_lt, bytes_eq, codes, if◌then◌else◌,
 use Rattle.board_core.specs.declared.step.Address.{Address}
 use Rattle.script_text.specs.Forms.{address_of, decimal_of}
 use Rattle.pef_cli.specs.declared.form.Form.{Form}
-use Rattle.pef_cli.specs.declared.form.Form.TheVariants.{Init, InitConsole, Run, Receive, Listen, List as ListForm}
+use Rattle.pef_cli.specs.declared.form.Form.TheVariants.{Init, InitConsole, Run, Receive, Live, Listen, List as ListForm}
 use Rattle.pef_cli.specs.declared.form.Paths.{Paths}
 
 -- behind its own word a form names the state file, and then the other file
@@ -33,7 +33,10 @@ lone_form_named word = if bytes_eq word (codes "list") then Some ListForm else N
 
 -- the form with a feed
 abbrev pub fed_form_named : List ℕ → Option Form
-fed_form_named word = if bytes_eq word (codes "listen") then Some Listen else None
+fed_form_named word =
+    if bytes_eq word (codes "live") then Some Live
+    else (if bytes_eq word (codes "listen") then Some Listen
+    else None)
 
 -- a number above 0
 abbrev pub above_zero : Option ℕ → Option ℕ
@@ -52,7 +55,7 @@ fed_paths (Some form) None arrivals = None
 fed_paths None address arrivals = None
 
 -- What the words behind the program's name ask for. The forms are `init STATE SETTINGS`, `init-console STATE SETTINGS`,
--- `run STATE SCRIPT`, `receive STATE CAPTURE`, `listen STATE ADDRESS ARRIVALS` and `list STATE`.
+-- `run STATE SCRIPT`, `receive STATE CAPTURE`, `live STATE ADDRESS ARRIVALS`, `listen STATE ADDRESS ARRIVALS` and `list STATE`.
 abbrev pub paths_of : List (List ℕ) → Option Paths
 paths_of [] = None
 paths_of (word ∷ []) = None

@@ -10,6 +10,8 @@ pub enum Form {
     Run,
     /// `receive STATE CAPTURE` takes the datagrams of a capture, behind those taken where it was begun before.
     Receive,
+    /// `live STATE ADDRESS ARRIVALS` takes the frames that arrive at an address, and the seconds that pass, into a controller.
+    Live,
     /// `listen STATE ADDRESS ARRIVALS` takes the datagrams that arrive at an address into a console's ledger.
     Listen,
     /// `list STATE` shows the rows of a console's ledger.
@@ -37,11 +39,12 @@ pub struct Paths {
 }
 
 /// The forms as a person types them, behind the program's name.
-pub const FORMS: [&str; 6] = [
+pub const FORMS: [&str; 7] = [
     "init STATE SETTINGS",
     "init-console STATE SETTINGS",
     "run STATE SCRIPT",
     "receive STATE CAPTURE",
+    "live STATE ADDRESS ARRIVALS",
     "listen STATE ADDRESS ARRIVALS",
     "list STATE",
 ];

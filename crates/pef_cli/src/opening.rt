@@ -1,5 +1,6 @@
 //! Opening the files and the socket that a form's words name.
 use crate::asked::Asked;
+use crate::form::Form;
 use crate::no_start::NoStart;
 use crate::state_reader::StateReader;
 use board_core::Address;
@@ -28,7 +29,8 @@ pub fn open_files<'r, 'a>(
     Ok((FileBoard::new(rt, file, plant), source))
 }
 
-/// Takes the address, then opens the state file with its plant. Steps go out from sockets of their own. Nothing is read or written.
+/// Takes the address, then opens the state file with its plant. A controller's datagrams go out from this address, and a console's from
+/// sockets of their own. Nothing is read or written.
 pub fn open_feed<'r, 'a>(
     rt: &'r HostRuntime,
     asked: &Asked<'a>,
@@ -38,6 +40,13 @@ pub fn open_feed<'r, 'a>(
     let state = asked.state;
     let file = HeldFile::open(rt, state).map_err(|fault| NoStart::of_state(state, fault))?;
     let plant = open_plant(rt, state, &file)?;
+    if asked.form == Form::Live {
+        let socket = feed
+            .socket()
+            .map_err(|error| NoStart::of(asked.second, error))?;
+        let board = FileBoard::sending_from(rt, file, plant, socket);
+        return Ok((board, feed));
+    }
     Ok((FileBoard::new(rt, file, plant), feed))
 }
 

@@ -1,6 +1,6 @@
 //! One call of the program on its words.
 ghost use Rattle.std.specs.Prelude.{◌≡◌, ◌⊎◌, ℕ, map, string_bytes};
-ghost use Rattle.pef_cli.specs.declared.form.Form.TheVariants.{Init, InitConsole, Run, Receive, Listen, List};
+ghost use Rattle.pef_cli.specs.declared.form.Form.TheVariants.{Init, InitConsole, Run, Receive, Live, Listen, List};
 ghost use Rattle.pef_cli.specs.Init.{Inits, making};
 ghost use Rattle.pef_cli.specs.Kinds.{kinds};
 ghost use Rattle.pef_settings.specs.Settings.{controller, settings_of};
@@ -14,6 +14,7 @@ ghost use Rattle.pef_cli.specs.Receiving.{console_kind, AcksAreKept, AcksAreKept
 ghost use Rattle.pef_core.specs.Histories.{controller_rules};
 ghost use Rattle.pef_core.specs.Report.{controller_scripts};
 ghost use Rattle.pef_core.specs.View.{view_of};
+ghost use Rattle.pef_core.specs.Arriving as controller_feed;
 ghost use Rattle.trap_console.specs.Arriving as console_feed;
 ghost use Rattle.script_run.specs.Going.{kind};
 ghost use Rattle.script_run.specs.Top.{RunCall, outside};
@@ -27,6 +28,7 @@ use crate::receiving::receive;
 use crate::words::paths;
 use board_core::{Board, Feed, Sink, Source};
 use console_settings::ConsoleSettings;
+use feed_run::listen;
 use pef_core::Controller;
 use pef_settings::ControllerSettings;
 use report_line::{Ending, finish};
@@ -61,6 +63,9 @@ pub fn top<B: Board, S: Source, F: Feed, K: Sink>(
     ensures acks { IsOfForm Receive (map string_bytes words.now) → AcksAreKept (S.left source.old) (B.view board.old) (B.view board.new) }
     ensures list { IsOfLoneForm List (map string_bytes words.now) → Lists (sourceless (B.view board.old) (K.written out.old) (K.faults out.old))
         (sourceless (B.view board.new) (K.written out.new) (K.faults out.new)) result × (source.new ≡ source.old) × (feed.new ≡ feed.old) }
+    ensures live { (arrivals : ℕ) → IsOfFedForm Live arrivals (map string_bytes words.now) → FeedCall (kind controller_rules view_of controller_scripts) controller_feed.item_at arrivals
+        (around (B.view board.old) (F.arrivals feed.old) (F.faults feed.old) (K.written out.old) (K.faults out.old))
+        (around (B.view board.new) (F.arrivals feed.new) (F.faults feed.new) (K.written out.new) (K.faults out.new)) result × (source.new ≡ source.old) }
     ensures listen { (arrivals : ℕ) → IsOfFedForm Listen arrivals (map string_bytes words.now) → FeedCall console_kind console_feed.item_at arrivals
         (around (B.view board.old) (F.arrivals feed.old) (F.faults feed.old) (K.written out.old) (K.faults out.old))
         (around (B.view board.new) (F.arrivals feed.new) (F.faults feed.new) (K.written out.new) (K.faults out.new)) result × (source.new ≡ source.old) }
@@ -74,6 +79,7 @@ pub fn top<B: Board, S: Source, F: Feed, K: Sink>(
         Form::InitConsole => init::<ConsoleSettings, B, S, K>(alloc, &KINDS, board, source, out),
         Form::Run => run::<Controller, B, S, K>(alloc, board, source, out),
         Form::Receive => receive(alloc, board, source, out),
+        Form::Live => listen::<Controller, B, F, K>(alloc, board, feed, out, paths.arrivals as u32),
         Form::Listen => listen_to_traps(alloc, board, feed, out, paths.arrivals as u32),
         Form::List => list(alloc, board, out),
     }

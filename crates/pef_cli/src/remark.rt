@@ -104,7 +104,9 @@ fn unformatted<'a, B: Board>(
     board: &mut B,
 ) -> Option<Remark<'a>> {
     let why = match asked.form {
-        Form::Init | Form::Run => why_unformatted::<Controller, B>(alloc, board, "controller"),
+        Form::Init | Form::Run | Form::Live => {
+            why_unformatted::<Controller, B>(alloc, board, "controller")
+        }
         Form::InitConsole | Form::Receive | Form::Listen | Form::List => {
             why_unformatted::<Console, B>(alloc, board, "console")
         }
@@ -120,7 +122,7 @@ fn settings<'a>(asked: &Asked<'a>) -> Option<Remark<'a>> {
     match asked.form {
         Form::Init => Some(Remark::Controller(asked.second)),
         Form::InitConsole => Some(Remark::Console(asked.second)),
-        Form::Run | Form::Receive | Form::Listen | Form::List => None,
+        Form::Run | Form::Receive | Form::Live | Form::Listen | Form::List => None,
     }
 }
 

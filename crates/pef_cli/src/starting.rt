@@ -81,7 +81,7 @@ fn call_without_files<'a>(rt: &HostRuntime, words: &[String]) -> Result<u8, NoSt
 fn call<'a>(rt: &HostRuntime, words: &[String], asked: &Asked<'a>) -> Result<u8, NoStart<'a>> {
     match asked.form {
         Form::List => call_to_read(rt, words, asked),
-        Form::Listen => call_over_feed(rt, words, asked),
+        Form::Live | Form::Listen => call_over_feed(rt, words, asked),
         _ => call_on_files(rt, words, asked),
     }
 }

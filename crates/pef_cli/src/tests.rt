@@ -13,6 +13,7 @@ mod full_console;
 mod init;
 mod list;
 mod listen;
+mod live;
 mod memory;
 mod run;
 

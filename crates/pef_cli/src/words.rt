@@ -75,6 +75,7 @@ fn fed_form_of(word: &str) -> Option<Form>
     ensures { result ≡ fed_form_named word.now }
 {
     match word {
+        "live" => Some(Form::Live),
         "listen" => Some(Form::Listen),
         _ => None,
     }

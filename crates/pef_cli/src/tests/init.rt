@@ -213,7 +213,7 @@ fn other_words_are_no_form(rt: HostRuntime) {
         arrivals,
         ..places(Form::Listen)
     };
-    let rows: [(&[&str], Option<Paths>); 43] = [
+    let rows: [(&[&str], Option<Paths>); 45] = [
         (
             &["init", "state", "settings.toml"],
             Some(places(Form::Init)),
@@ -246,7 +246,15 @@ fn other_words_are_no_form(rt: HostRuntime) {
         (&["init-consoles", "state", "settings"], None),
         (&["receive", "state"], None),
         (&["--help"], None),
-        (&["live", "state", "127.0.0.1:623", "1"], None),
+        (
+            &["live", "state", "127.0.0.1:623", "1"],
+            Some(Paths {
+                form: Form::Live,
+                ..listening(1)
+            }),
+        ),
+        (&["live", "state", "127.0.0.1:623"], None),
+        (&["live", "state", "127.0.0.1:623", "0"], None),
         (
             &["listen", "state", "127.0.0.1:623", "1"],
             Some(listening(1)),

@@ -16,15 +16,24 @@ use std::test::Fail;
 use std::time::Duration;
 use std::{env, fs, process};
 
-// The lines of a new trap, and of the same again.
-const NEW: &str =
-    "row 1\nsend 10.0.0.2:623 0600ff07000000000000000000132010d0810417010080edef062020305210200f done\n";
+// The reports of the trap that comes once, whose acknowledgement is sent or isn't, and of one that comes twice.
+const ONCE: &str = "row 1\n\
+send 10.0.0.2:623 0600ff07000000000000000000132010d0810417010080edef062020305210200f done\n\
+ok 1\n";
 
-const AGAIN: &str =
-    "again 1\nsend 10.0.0.2:623 0600ff07000000000000000000132010d0810417010080edef062020305210200f done\n";
+const UNSENT: &str = "row 1\n\
+send 10.0.0.2:623 0600ff07000000000000000000132010d0810417010080edef062020305210200f failed\n\
+ok 1\n";
 
-const UNSENT: &str =
-    "row 1\nsend 10.0.0.2:623 0600ff07000000000000000000132010d0810417010080edef062020305210200f failed\n";
+const TWICE: &str = "row 1\n\
+send 10.0.0.2:623 0600ff07000000000000000000132010d0810417010080edef062020305210200f done\n\
+again 1\n\
+send 10.0.0.2:623 0600ff07000000000000000000132010d0810417010080edef062020305210200f done\n\
+ok 2\n";
+
+const CUT: &str = "row 1\n\
+send 10.0.0.2:623 0600ff07000000000000000000132010d0810417010080edef062020305210200f done\n\
+input failed\n";
 
 // A datagram of these octets from 10.0.0.2.
 fn datagram(octets: &[u8]) -> Arrival
@@ -63,7 +72,7 @@ struct Case<'a> {
     failing_feed: &'a [u64],
     failing_sink: Option<u64>,
     status: u8,
-    written: [&'a str; 3],
+    written: &'a str,
     after: &'a [u8],
     sent: usize,
 }
@@ -75,9 +84,8 @@ fn check(rt: &impl Abort, alloc: Global, case: &Case<'_>) -> Result<(), AllocErr
     let mut feed = MemFeed::new(alloc, &arrivals, case.failing_feed)?;
     let mut out = MemSink::new(alloc, case.failing_sink);
     let status = listen(alloc, case.number, &mut board, &mut feed, &mut out)?;
-    let written = case.written.concat(alloc)?;
     assert_eq!(rt; status, case.status, "{what}: status");
-    assert_eq!(rt; out.written(), written.as_bytes(), "{what}: output");
+    assert_eq!(rt; out.written(), case.written.as_bytes(), "{what}: output");
     assert!(rt; board.octets() == case.after, "{what}: file");
     assert_eq!(rt; board.issued().len(), case.sent, "{what}: steps");
     Ok(())
@@ -100,7 +108,7 @@ fn a_console_takes_what_a_feed_gives(rt: HostRuntime) -> Result<(), Fail> {
         failing_feed: &[],
         failing_sink: None,
         status: 0,
-        written: [NEW, AGAIN, "ok 2\n"],
+        written: TWICE,
         after: two.as_slice(),
         sent: 2,
     };
@@ -109,7 +117,7 @@ fn a_console_takes_what_a_feed_gives(rt: HostRuntime) -> Result<(), Fail> {
         file: begun.as_slice(),
         failing_feed: &[0],
         status: 5,
-        written: ["", "", "unfinished 00000001 2\n"],
+        written: "unfinished 00000001 2\n",
         after: begun.as_slice(),
         sent: 0,
         ..all
@@ -126,7 +134,7 @@ fn a_console_takes_what_a_feed_gives(rt: HostRuntime) -> Result<(), Fail> {
             what: "two arrivals",
             number: "0000000002",
             failing_feed: &[2],
-            written: [NEW, "", "ok 1\n"],
+            written: ONCE,
             after: one.as_slice(),
             sent: 1,
             ..all
@@ -135,7 +143,7 @@ fn a_console_takes_what_a_feed_gives(rt: HostRuntime) -> Result<(), Fail> {
             what: "the feed fails at the third",
             failing_feed: &[2],
             status: 6,
-            written: [NEW, "", "input failed\n"],
+            written: CUT,
             after: one.as_slice(),
             sent: 1,
             ..all
@@ -144,7 +152,7 @@ fn a_console_takes_what_a_feed_gives(rt: HostRuntime) -> Result<(), Fail> {
             what: "the feed fails at once",
             failing_feed: &[0],
             status: 6,
-            written: ["", "", "input failed\n"],
+            written: "input failed\n",
             after: &CONSOLE,
             sent: 0,
             ..all
@@ -153,7 +161,7 @@ fn a_console_takes_what_a_feed_gives(rt: HostRuntime) -> Result<(), Fail> {
             what: "an acknowledgement that can't be sent",
             number: "1",
             failing_issue: &[0],
-            written: [UNSENT, "", "ok 1\n"],
+            written: UNSENT,
             after: unsent.as_slice(),
             sent: 1,
             ..all
@@ -162,7 +170,7 @@ fn a_console_takes_what_a_feed_gives(rt: HostRuntime) -> Result<(), Fail> {
             what: "a disk that fails at its first call",
             failing_disk: &[0],
             status: 7,
-            written: ["", "", "disk failed\n"],
+            written: "disk failed\n",
             after: &CONSOLE,
             sent: 0,
             ..all
@@ -172,7 +180,7 @@ fn a_console_takes_what_a_feed_gives(rt: HostRuntime) -> Result<(), Fail> {
             what: "a controller's file",
             file: &MADE,
             status: 3,
-            written: ["", "", "unformatted\n"],
+            written: "unformatted\n",
             after: &MADE,
             ..refused
         },
@@ -306,7 +314,7 @@ fn a_crash_loses_at_most_the_arrival_at_hand(rt: HostRuntime) -> Result<(), Fail
 }
 
 // A path of this test alone in the folder for temporary files.
-fn path_of(rt: &HostRuntime, name: &str) -> Result<String, AllocError> {
+pub fn path_of(rt: &HostRuntime, name: &str) -> Result<String, AllocError> {
     let id = process::id(rt.process());
     match env::temp_dir(rt) {
         Ok(folder) => format!(in rt.alloc(); "{}/{name}-{id}", folder.display()),
