@@ -3,3 +3,4 @@ pub mod Faults
 pub mod Endings
 pub mod Acks
 pub mod Rows
+pub mod Writing

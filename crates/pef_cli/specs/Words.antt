@@ -1,7 +1,7 @@
 -- The forms of a command line, and what they name.
 use Rattle.std.specs.Prelude.{ℕ, bytes_eq, codes, if◌then◌else◌, List, [], ◌∷◌, option_map, Option, Some, None}
 use Rattle.pef_cli.specs.declared.form.Form.{Form}
-use Rattle.pef_cli.specs.declared.form.Form.TheVariants.{Init, InitConsole, Run, Receive, List as ListForm}
+use Rattle.pef_cli.specs.declared.form.Form.TheVariants.{Init, InitConsole, Run, Receive, Show, List as ListForm}
 use Rattle.pef_cli.specs.declared.form.Paths.{Paths}
 
 -- behind its own word a form names the state file, and then the other file
@@ -21,12 +21,15 @@ form_named word =
     else (if bytes_eq word (codes "receive") then Some Receive
     else None)))
 
--- the form with one file
+-- the forms with one file
 abbrev pub lone_form_named : List ℕ → Option Form
-lone_form_named word = if bytes_eq word (codes "list") then Some ListForm else None
+lone_form_named word =
+    if bytes_eq word (codes "show") then Some Show
+    else (if bytes_eq word (codes "list") then Some ListForm
+    else None)
 
 -- What the words behind the program's name ask for. The forms are `init STATE SETTINGS`, `init-console STATE SETTINGS`,
--- `run STATE SCRIPT`, `receive STATE CAPTURE` and `list STATE`.
+-- `run STATE SCRIPT`, `receive STATE CAPTURE`, `show STATE` and `list STATE`.
 abbrev pub paths_of : List (List ℕ) → Option Paths
 paths_of [] = None
 paths_of (word ∷ []) = None

@@ -10,6 +10,8 @@ pub enum Form {
     Run,
     /// `receive STATE CAPTURE` takes the datagrams of a capture, behind those taken where it was begun before.
     Receive,
+    /// `show STATE` shows what a controller's state file says.
+    Show,
     /// `list STATE` shows the rows of a console's ledger.
     List,
 }
@@ -35,10 +37,11 @@ pub struct Paths {
 }
 
 /// The forms as a person types them, behind the program's name.
-pub const FORMS: [&str; 5] = [
+pub const FORMS: [&str; 6] = [
     "init STATE SETTINGS",
     "init-console STATE SETTINGS",
     "run STATE SCRIPT",
     "receive STATE CAPTURE",
+    "show STATE",
     "list STATE",
 ];

@@ -1,6 +1,6 @@
 //! One call of the program on its words.
 ghost use Rattle.std.specs.Prelude.{◌≡◌, ◌⊎◌, map, string_bytes};
-ghost use Rattle.pef_cli.specs.declared.form.Form.TheVariants.{Init, InitConsole, Run, Receive, List};
+ghost use Rattle.pef_cli.specs.declared.form.Form.TheVariants.{Init, InitConsole, Run, Receive, Show, List};
 ghost use Rattle.pef_cli.specs.Init.{Inits, making};
 ghost use Rattle.pef_cli.specs.Kinds.{kinds};
 ghost use Rattle.pef_settings.specs.Settings.{controller, settings_of};
@@ -8,7 +8,7 @@ ghost use Rattle.console_settings.specs.Settings as console;
 ghost use Rattle.report_line.specs.declared.ending.Ending.TheVariants.{Usage};
 ghost use Rattle.report_line.specs.Finishing.{Finishes};
 ghost use Rattle.pef_cli.specs.Top.{IsNoForm, IsOfForm, IsOfLoneForm};
-ghost use Rattle.pef_cli.specs.Listing.{Lists, sourceless};
+ghost use Rattle.pef_cli.specs.Listing.{Lists, controller_page, ledger, sourceless};
 ghost use Rattle.pef_cli.specs.Receiving.{console_kind, AcksAreKept};
 ghost use Rattle.pef_core.specs.Histories.{controller_rules};
 ghost use Rattle.pef_core.specs.Report.{controller_scripts};
@@ -21,6 +21,7 @@ use crate::initializing::init;
 use crate::kinds::KINDS;
 use crate::listing::list;
 use crate::receiving::receive;
+use crate::showing::show;
 use crate::words::paths;
 use board_core::{Board, Sink, Source};
 use console_settings::ConsoleSettings;
@@ -55,7 +56,9 @@ pub fn top<B: Board, S: Source, K: Sink>(
         (outside (B.view board.old) (S.left source.old) (S.faults source.old) (K.written out.old) (K.faults out.old))
         (outside (B.view board.new) (S.left source.new) (S.faults source.new) (K.written out.new) (K.faults out.new)) result }
     ensures acks { IsOfForm Receive (map string_bytes words.now) → AcksAreKept (S.left source.old) (B.view board.old) (B.view board.new) }
-    ensures list { IsOfLoneForm List (map string_bytes words.now) → Lists (sourceless (B.view board.old) (K.written out.old) (K.faults out.old))
+    ensures show { IsOfLoneForm Show (map string_bytes words.now) → Lists controller_page (sourceless (B.view board.old) (K.written out.old) (K.faults out.old))
+        (sourceless (B.view board.new) (K.written out.new) (K.faults out.new)) result × (source.new ≡ source.old) }
+    ensures list { IsOfLoneForm List (map string_bytes words.now) → Lists ledger (sourceless (B.view board.old) (K.written out.old) (K.faults out.old))
         (sourceless (B.view board.new) (K.written out.new) (K.faults out.new)) result × (source.new ≡ source.old) }
 {
     let Some(paths) = paths(words) else {
@@ -66,6 +69,7 @@ pub fn top<B: Board, S: Source, K: Sink>(
         Form::InitConsole => init::<ConsoleSettings, B, S, K>(alloc, &KINDS, board, source, out),
         Form::Run => run::<Controller, B, S, K>(alloc, board, source, out),
         Form::Receive => receive(alloc, board, source, out),
+        Form::Show => show(alloc, board, out),
         Form::List => list(alloc, board, out),
     }
 }

@@ -4,7 +4,7 @@ use crate::form::Form;
 use crate::no_start::NoStart;
 use crate::opening::{open_files, open_to_read};
 use crate::program::top;
-use crate::remark::{tell, tell_of_list};
+use crate::remark::{tell, tell_of_reading};
 use crate::words::paths;
 use board_core::{MemBoard, MemSource};
 use read_ahead::ReadAhead;
@@ -78,7 +78,7 @@ fn call_without_files<'a>(rt: &HostRuntime, words: &[String]) -> Result<u8, NoSt
 // A call on the files that the words name.
 fn call<'a>(rt: &HostRuntime, words: &[String], asked: &Asked<'a>) -> Result<u8, NoStart<'a>> {
     match asked.form {
-        Form::List => call_to_read(rt, words, asked),
+        Form::Show | Form::List => call_to_read(rt, words, asked),
         _ => call_on_files(rt, words, asked),
     }
 }
@@ -94,7 +94,7 @@ fn call_to_read<'a>(
     let mut source = MemSource::new(alloc, &[], &[])?;
     let mut out = StdSink::new(io::writer(rt));
     let status = top(alloc, words, &mut board, &mut source, &mut out);
-    tell_of_list(rt, asked, status, &mut board, &out);
+    tell_of_reading(rt, asked, status, &mut board, &out);
     Ok(status)
 }
 

@@ -13,6 +13,7 @@ mod init;
 mod list;
 mod memory;
 mod run;
+mod show;
 
 use crate::program::top;
 use board_core::{Act, MemBoard, MemSink, MemSource, Sent, Step};

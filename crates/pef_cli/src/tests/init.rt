@@ -209,7 +209,7 @@ fn other_words_are_no_form(rt: HostRuntime) {
         second: 2,
         arrivals: 0,
     };
-    let rows: [(&[&str], Option<Paths>); 18] = [
+    let rows: [(&[&str], Option<Paths>); 21] = [
         (
             &["init", "state", "settings.toml"],
             Some(places(Form::Init)),
@@ -229,6 +229,15 @@ fn other_words_are_no_form(rt: HostRuntime) {
         (&["init", "state", "settings.toml", "more"], None),
         (&["INIT", "state", "settings.toml"], None),
         (&["initialise", "state", "settings.toml"], None),
+        (
+            &["show", "state"],
+            Some(Paths {
+                second: 0,
+                ..places(Form::Show)
+            }),
+        ),
+        (&["show"], None),
+        (&["show", "state", "more"], None),
         (
             &["list", "state"],
             Some(Paths {
