@@ -4,3 +4,4 @@ pub mod Endings
 pub mod Acks
 pub mod Rows
 pub mod Forms
+pub mod Writing

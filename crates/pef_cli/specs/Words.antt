@@ -3,7 +3,7 @@ use Rattle.std.specs.Prelude.{ℕ, nat_lt, bytes_eq, codes, if◌then◌else◌,
 use Rattle.board_core.specs.declared.step.Address.{Address}
 use Rattle.script_text.specs.Forms.{address_of, decimal_of}
 use Rattle.pef_cli.specs.declared.form.Form.{Form}
-use Rattle.pef_cli.specs.declared.form.Form.TheVariants.{Init, InitConsole, Run, Receive, Live, Listen, List as ListForm}
+use Rattle.pef_cli.specs.declared.form.Form.TheVariants.{Init, InitConsole, Run, Receive, Live, Listen, Show, List as ListForm}
 use Rattle.pef_cli.specs.declared.form.Paths.{Paths}
 
 -- behind its own word a form names the state file, and then the other file
@@ -27,9 +27,12 @@ form_named word =
     else (if bytes_eq word (codes "receive") then Some Receive
     else None)))
 
--- the form with one file
+-- the forms with one file
 abbrev pub lone_form_named : List ℕ → Option Form
-lone_form_named word = if bytes_eq word (codes "list") then Some ListForm else None
+lone_form_named word =
+    if bytes_eq word (codes "show") then Some Show
+    else (if bytes_eq word (codes "list") then Some ListForm
+    else None)
 
 -- the form with a feed
 abbrev pub fed_form_named : List ℕ → Option Form
@@ -55,7 +58,8 @@ fed_paths (Some form) None arrivals = None
 fed_paths None address arrivals = None
 
 -- What the words behind the program's name ask for. The forms are `init STATE SETTINGS`, `init-console STATE SETTINGS`,
--- `run STATE SCRIPT`, `receive STATE CAPTURE`, `live STATE ADDRESS ARRIVALS`, `listen STATE ADDRESS ARRIVALS` and `list STATE`.
+-- `run STATE SCRIPT`, `receive STATE CAPTURE`, `live STATE ADDRESS ARRIVALS`, `listen STATE ADDRESS ARRIVALS`, `show STATE` and
+-- `list STATE`.
 abbrev pub paths_of : List (List ℕ) → Option Paths
 paths_of [] = None
 paths_of (word ∷ []) = None

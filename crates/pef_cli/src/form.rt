@@ -14,6 +14,8 @@ pub enum Form {
     Live,
     /// `listen STATE ADDRESS ARRIVALS` takes the datagrams that arrive at an address into a console's ledger.
     Listen,
+    /// `show STATE` shows what a controller's state file says.
+    Show,
     /// `list STATE` shows the rows of a console's ledger.
     List,
 }
@@ -39,12 +41,13 @@ pub struct Paths {
 }
 
 /// The forms as a person types them, behind the program's name.
-pub const FORMS: [&str; 7] = [
+pub const FORMS: [&str; 8] = [
     "init STATE SETTINGS",
     "init-console STATE SETTINGS",
     "run STATE SCRIPT",
     "receive STATE CAPTURE",
     "live STATE ADDRESS ARRIVALS",
     "listen STATE ADDRESS ARRIVALS",
+    "show STATE",
     "list STATE",
 ];

@@ -7,7 +7,7 @@ ghost use Rattle.script_run.specs.Performing.{open_ending};
 ghost use Rattle.trap_console.specs.Heard.{rows_of};
 ghost use Rattle.trap_console.specs.Listing.{listed};
 ghost use Rattle.trap_console.specs.View.{ShowsConsole};
-ghost use Rattle.pef_cli.specs.Listing.{IsShownEnd, Lists, Shows, Wrote, WrotePart, sourceless};
+ghost use Rattle.pef_cli.specs.Listing.{IsShownEnd, Lists, ledger, Shows, Wrote, WrotePart, sourceless};
 
 use board_core::{Board, Sink};
 use pef_engine::{Engine, EngineFault};
@@ -17,7 +17,7 @@ use trap_console::{Console, Item, list as list_rows};
 
 /// Writes a line for each row of the console of the board's file, and answers the status. The file stays as it is.
 pub fn list<B: Board, K: Sink>(alloc: Global, board: &mut B, out: &mut K) -> u8
-    ensures { Lists (sourceless (B.view board.old) (K.written out.old) (K.faults out.old))
+    ensures { Lists ledger (sourceless (B.view board.old) (K.written out.old) (K.faults out.old))
         (sourceless (B.view board.new) (K.written out.new) (K.faults out.new)) result }
 {
     let end = show(alloc, board, out);
@@ -26,7 +26,7 @@ pub fn list<B: Board, K: Sink>(alloc: Global, board: &mut B, out: &mut K) -> u8
 
 // Shows the rows, and says how the call ends.
 fn show<B: Board, K: Sink>(alloc: Global, board: &mut B, out: &mut K) -> Ending
-    ensures { Shows (sourceless (B.view board.old) (K.written out.old) (K.faults out.old))
+    ensures { Shows ledger (sourceless (B.view board.old) (K.written out.old) (K.faults out.old))
         (sourceless (B.view board.new) (K.written out.new) (K.faults out.new)) result }
 {
     match Engine::<Console>::open(alloc, board) {
@@ -52,8 +52,8 @@ fn show_rows<K: Sink>(console: &Console, out: &mut K) -> Ending
     }
 }
 
-// How a call ends whose file isn't opened.
-fn ending_at_opening(fault: EngineFault) -> Ending
+/// How a call ends whose file isn't opened.
+pub(crate) fn ending_at_opening(fault: EngineFault) -> Ending
     ensures { result ≡ open_ending fault }
 {
     match fault {

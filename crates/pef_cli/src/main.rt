@@ -14,6 +14,7 @@ mod opening;
 mod program;
 mod receiving;
 mod remark;
+mod showing;
 mod starting;
 mod state_reader;
 mod unformatted;

@@ -1,6 +1,6 @@
 //! One call of the program on its words.
 ghost use Rattle.std.specs.Prelude.{◌≡◌, ◌⊎◌, ℕ, map, string_bytes};
-ghost use Rattle.pef_cli.specs.declared.form.Form.TheVariants.{Init, InitConsole, Run, Receive, Live, Listen, List};
+ghost use Rattle.pef_cli.specs.declared.form.Form.TheVariants.{Init, InitConsole, Run, Receive, Live, Listen, Show, List};
 ghost use Rattle.pef_cli.specs.Init.{Inits, making};
 ghost use Rattle.pef_cli.specs.Kinds.{kinds};
 ghost use Rattle.pef_settings.specs.Settings.{controller, settings_of};
@@ -9,7 +9,7 @@ ghost use Rattle.report_line.specs.declared.ending.Ending.TheVariants.{Usage};
 ghost use Rattle.report_line.specs.Finishing.{Finishes};
 ghost use Rattle.feed_run.specs.Top.{FeedCall, around};
 ghost use Rattle.pef_cli.specs.Top.{IsNoForm, IsOfForm, IsOfLoneForm, IsOfFedForm};
-ghost use Rattle.pef_cli.specs.Listing.{Lists, sourceless};
+ghost use Rattle.pef_cli.specs.Listing.{Lists, controller_page, ledger, sourceless};
 ghost use Rattle.pef_cli.specs.Receiving.{console_kind, AcksAreKept, AcksAreKeptOver};
 ghost use Rattle.pef_core.specs.Histories.{controller_rules};
 ghost use Rattle.pef_core.specs.Report.{controller_scripts};
@@ -25,6 +25,7 @@ use crate::kinds::KINDS;
 use crate::listening::listen_to_traps;
 use crate::listing::list;
 use crate::receiving::receive;
+use crate::showing::show;
 use crate::words::paths;
 use board_core::{Board, Feed, Sink, Source};
 use console_settings::ConsoleSettings;
@@ -61,7 +62,9 @@ pub fn top<B: Board, S: Source, F: Feed, K: Sink>(
         (outside (B.view board.old) (S.left source.old) (S.faults source.old) (K.written out.old) (K.faults out.old))
         (outside (B.view board.new) (S.left source.new) (S.faults source.new) (K.written out.new) (K.faults out.new)) result × (feed.new ≡ feed.old) }
     ensures acks { IsOfForm Receive (map string_bytes words.now) → AcksAreKept (S.left source.old) (B.view board.old) (B.view board.new) }
-    ensures list { IsOfLoneForm List (map string_bytes words.now) → Lists (sourceless (B.view board.old) (K.written out.old) (K.faults out.old))
+    ensures show { IsOfLoneForm Show (map string_bytes words.now) → Lists controller_page (sourceless (B.view board.old) (K.written out.old) (K.faults out.old))
+        (sourceless (B.view board.new) (K.written out.new) (K.faults out.new)) result × (source.new ≡ source.old) × (feed.new ≡ feed.old) }
+    ensures list { IsOfLoneForm List (map string_bytes words.now) → Lists ledger (sourceless (B.view board.old) (K.written out.old) (K.faults out.old))
         (sourceless (B.view board.new) (K.written out.new) (K.faults out.new)) result × (source.new ≡ source.old) × (feed.new ≡ feed.old) }
     ensures live { (arrivals : ℕ) → IsOfFedForm Live arrivals (map string_bytes words.now) → FeedCall (kind controller_rules view_of controller_scripts) controller_feed.item_at arrivals
         (around (B.view board.old) (F.arrivals feed.old) (F.faults feed.old) (K.written out.old) (K.faults out.old))
@@ -81,6 +84,7 @@ pub fn top<B: Board, S: Source, F: Feed, K: Sink>(
         Form::Receive => receive(alloc, board, source, out),
         Form::Live => listen::<Controller, B, F, K>(alloc, board, feed, out, paths.arrivals as u32),
         Form::Listen => listen_to_traps(alloc, board, feed, out, paths.arrivals as u32),
+        Form::Show => show(alloc, board, out),
         Form::List => list(alloc, board, out),
     }
 }

@@ -62,8 +62,8 @@ pub fn tell<W: Write + Drop>(
     say(rt, failed(asked.state, board.board().issue_failure()));
 }
 
-/// Says why a call of `list` ended with its status.
-pub fn tell_of_list<W: Write + Drop>(
+/// Says why a call of `show` or `list` ended with its status.
+pub fn tell_of_reading<W: Write + Drop>(
     rt: &HostRuntime,
     asked: &Asked<'_>,
     status: u8,
@@ -104,7 +104,7 @@ fn unformatted<'a, B: Board>(
     board: &mut B,
 ) -> Option<Remark<'a>> {
     let why = match asked.form {
-        Form::Init | Form::Run | Form::Live => {
+        Form::Init | Form::Run | Form::Live | Form::Show => {
             why_unformatted::<Controller, B>(alloc, board, "controller")
         }
         Form::InitConsole | Form::Receive | Form::Listen | Form::List => {
@@ -122,7 +122,7 @@ fn settings<'a>(asked: &Asked<'a>) -> Option<Remark<'a>> {
     match asked.form {
         Form::Init => Some(Remark::Controller(asked.second)),
         Form::InitConsole => Some(Remark::Console(asked.second)),
-        Form::Run | Form::Receive | Form::Live | Form::Listen | Form::List => None,
+        Form::Run | Form::Receive | Form::Live | Form::Listen | Form::Show | Form::List => None,
     }
 }
 

@@ -4,7 +4,7 @@ use crate::form::Form;
 use crate::no_start::NoStart;
 use crate::opening::{open_feed, open_files, open_to_read};
 use crate::program::top;
-use crate::remark::{tell, tell_of_list};
+use crate::remark::{tell, tell_of_reading};
 use crate::words::paths;
 use board_core::{MemBoard, MemFeed, MemSource};
 use read_ahead::ReadAhead;
@@ -80,7 +80,7 @@ fn call_without_files<'a>(rt: &HostRuntime, words: &[String]) -> Result<u8, NoSt
 // A call on the files and the address that the words name.
 fn call<'a>(rt: &HostRuntime, words: &[String], asked: &Asked<'a>) -> Result<u8, NoStart<'a>> {
     match asked.form {
-        Form::List => call_to_read(rt, words, asked),
+        Form::Show | Form::List => call_to_read(rt, words, asked),
         Form::Live | Form::Listen => call_over_feed(rt, words, asked),
         _ => call_on_files(rt, words, asked),
     }
@@ -98,7 +98,7 @@ fn call_to_read<'a>(
     let mut feed = MemFeed::new(alloc, &[], &[])?;
     let mut out = StdSink::new(io::writer(rt));
     let status = top(alloc, words, &mut board, &mut source, &mut feed, &mut out);
-    tell_of_list(rt, asked, status, &mut board, &out);
+    tell_of_reading(rt, asked, status, &mut board, &out);
     Ok(status)
 }
 

@@ -16,6 +16,7 @@ mod listen;
 mod live;
 mod memory;
 mod run;
+mod show;
 
 use crate::program::top;
 use board_core::{Act, MemBoard, MemFeed, MemSink, MemSource, Sent, Step};

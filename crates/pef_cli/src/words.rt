@@ -66,6 +66,7 @@ fn lone_form_of(word: &str) -> Option<Form>
     ensures { result ≡ lone_form_named word.now }
 {
     match word {
+        "show" => Some(Form::Show),
         "list" => Some(Form::List),
         _ => None,
     }

@@ -213,7 +213,7 @@ fn other_words_are_no_form(rt: HostRuntime) {
         arrivals,
         ..places(Form::Listen)
     };
-    let rows: [(&[&str], Option<Paths>); 45] = [
+    let rows: [(&[&str], Option<Paths>); 48] = [
         (
             &["init", "state", "settings.toml"],
             Some(places(Form::Init)),
@@ -233,6 +233,15 @@ fn other_words_are_no_form(rt: HostRuntime) {
         (&["init", "state", "settings.toml", "more"], None),
         (&["INIT", "state", "settings.toml"], None),
         (&["initialise", "state", "settings.toml"], None),
+        (
+            &["show", "state"],
+            Some(Paths {
+                second: 0,
+                ..places(Form::Show)
+            }),
+        ),
+        (&["show"], None),
+        (&["show", "state", "more"], None),
         (
             &["list", "state"],
             Some(Paths {
