@@ -10,7 +10,7 @@ use pef_engine::{Entry, Machine, Script};
 use report_line::{LineBuilder, ReportLine};
 
 impl Controller {
-    ghost use Rattle.std.specs.Prelude.{◌≡◌, ℕ, List};
+    ghost use Rattle.std.specs.Prelude.{◌≡◌, ℕ, List, length, min};
     ghost use Rattle.pef_core.specs.Shown.{job_id, summary, shown_page};
     ghost use Rattle.pef_core.specs.View.{ShowsController};
 
@@ -18,11 +18,9 @@ impl Controller {
     pub fn show(&self) -> Summary
         ensures { (Z : List ℕ) (H : List (Entry Item)) → ShowsController self.now Z H → result ≡ summary Z H }
     {
-        let records = self.log.len();
         Summary {
-            records: records as u16,
-            // the mark stands within the log
-            processed: self.mark.min(records) as u16,
+            records: self.log.len() as u16,
+            processed: self.processed_count(),
             last: id_or(0x0000, self.processed()),
             job: self.job(),
             status: self.status,
@@ -39,6 +37,13 @@ impl Controller {
         ensures { (Z : List ℕ) (H : List (Entry Item)) → ShowsController self.now Z H → result ≡ shown_page Z H }
     {
         page_of(&self.show(), self.script)
+    }
+
+    // How many records are processed. The mark stands within the log.
+    fn processed_count(&self) -> u16
+        ensures { result ≡ min self.now.mark (length self.now.log) }
+    {
+        self.mark.min(self.log.len()) as u16
     }
 
     // The ID of the record whose job runs.
