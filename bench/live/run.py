@@ -9,10 +9,10 @@ It builds no Rattle: it takes crates/pef_cli/out/pef_cli, which ./demo at the to
 - A controller and a console, each a process at a port of its own: an event of the controller's script waits behind the postpone timer,
   and then its alert goes out, is a row, is acknowledged, and the acknowledgement ends the alert, with no hand between.
 - A call that waits and gets nothing is to take no processor time but for its seconds.
-- Random octets, traps and frames with changed octets: no call ends by them, each one is reported, the ledger has the rows that were
-  reported and no more, and memory stays as it was but for rows.
+- Random octets, traps and frames with changed octets come to each form: no call ends by them, each one is reported, the ledger has the
+  rows that were reported and no more, a controller's tables are as they were, and memory stays as it was but for rows.
 
-usage: run.py [--quick]      15 rounds of 150 traps, 100,000 hostile datagrams; one of 20 and 1,500 in the quick mode
+usage: run.py [--quick]      25 rounds of 60 traps, 100,000 hostile datagrams; one of 20 and 1,500 in the quick mode
 """
 import os
 import pathlib
@@ -163,36 +163,80 @@ def idle(folder, seconds):
     print(f"listen, idle for {seconds} s: {took:.2f} s of processor time")
 
 
-def attack(folder, count):
-    """Hostile datagrams on a console that has a row: what its report says of each."""
-    state = console(folder, free_port())
-    call = Waiting("listen", state)
-    said = {"row": 0, "again": 0, "refused": 0}
+def attack(call, count, hear):
+    """Hostile datagrams, whose lines `hear` reads one after the other: the memory behind a tenth of them, and at the end."""
+    before = None
     with socket.socket(socket.AF_INET, socket.SOCK_DGRAM) as wire:
-        wire.sendto(TRAP, call.at)
-        check(call.line() == "row 1\n" and call.line().startswith("send "), "the first trap is no row")
-        said["row"] = 1
-        before = None
         for first in range(0, count, WINDOW):
             if before is None and first >= count // 10:
-                before = call.memory(), said["row"]
+                before = call.memory()
             size = min(WINDOW, count - first)
             for _ in range(size):
                 wire.sendto(hostile(), call.at)
             for _ in range(size):
-                word = call.line().split(" ", 1)[0]
-                check(word in said, f"a report line begins with {word!r}")
-                said[word] += 1
-                check(word == "refused" or call.line().startswith("send "), "a trap isn't acknowledged")
+                hear()
     after = call.memory()
     check(call.child.poll() is None, "the call ended")
     call.end()
-    rows = len(rows_of(state))
-    check(rows == said["row"], f"{rows} rows in the ledger, {said['row']} in the report")
+    return before, after
+
+
+def attack_console(folder, count):
+    """On a console that has a row: what its report says of each, and whether its ledger has the rows of the report."""
+    state = console(folder, free_port())
+    call = Waiting("listen", state)
+    said = {"row": 0, "again": 0, "refused": 0}
+
+    def hear():
+        word = call.line().split(" ", 1)[0]
+        check(word in said, f"a report line begins with {word!r}")
+        said[word] += 1
+        check(word == "refused" or call.line().startswith("send "), "a trap isn't acknowledged")
+
+    with socket.socket(socket.AF_INET, socket.SOCK_DGRAM) as wire:
+        wire.sendto(TRAP, call.at)
+    hear()
+    before, after = attack(call, count, hear)
+    check(len(rows_of(state)) == said["row"], "the ledger hasn't the rows of the report")
     print(
         f"listen, {count} hostile datagrams: {said['refused']} refused, {said['row'] - 1} changed traps are rows, {said['again']} came again;"
-        f" memory {before[0]} KiB behind a tenth of them ({before[1]} rows), {after} KiB at the end ({rows} rows)"
+        f" memory {before} KiB behind a tenth of them, {after} KiB at the end"
     )
+
+
+def attack_controller(folder, count):
+    """On a controller whose alert waits: each is a frame that asks for nothing, a ping, or an acknowledgement, and the tables stay."""
+    state = controller(folder, free_port())
+    tables = tables_of(folder, state, 2)
+    call = Waiting("live", state)
+    said = {"frame none\n": 0, "frame ping\n": 0, "frame command\n": 0}
+
+    def hear():
+        line = call.line()
+        while line == "tick\n" or line.startswith("send "):
+            line = call.line()
+        check(line in said, f"a report line is {line!r}")
+        said[line] += 1
+
+    before, after = attack(call, count, hear)
+    check(tables_of(folder, state, 3) == tables, "the tables have changed")
+    none, pings, commands = said.values()
+    print(
+        f"live, {count} hostile datagrams: {none} ask for nothing, {pings} are pings, {commands} acknowledgements;"
+        f" memory {before} KiB behind a tenth of them, {after} KiB at the end"
+    )
+
+
+def tables_of(folder, state, number):
+    """The filter, the policy entry, the destination and the GUID of a controller."""
+    script = folder / "reads"
+    reads = ["cmd 04 13 060100", "cmd 04 13 090100", "cmd 0c 02 01120100", "cmd 0c 02 01130100", "cmd 04 13 0a0000"]
+    script.write_text("\n".join([f"script {number:08x} {len(reads)}", *reads, "end"]) + "\n")
+    done = subprocess.run([program, "run", state, script], capture_output=True, text=True)
+    check(done.returncode == 0, f"run ends with {done.returncode}")
+    replies = [line for line in done.stdout.splitlines() if line.startswith("reply ")]
+    check(len(replies) == len(reads), f"run says {done.stdout!r}")
+    return replies
 
 
 TABLES = """\
@@ -246,7 +290,7 @@ def end_to_end(folder):
 
 def main():
     quick = sys.argv[1:] == ["--quick"]
-    rounds, count, seconds, attacks = (1, 20, 1, 1500) if quick else (15, 150, 10, 100_000)
+    rounds, count, seconds, attacks = (1, 20, 1, 1500) if quick else (25, 60, 10, 100_000)
     check(program.exists(), f"{program} is missing: ./demo at the top proves and builds it")
     with tempfile.TemporaryDirectory(dir="/dev/shm") as memory, tempfile.TemporaryDirectory(prefix="bench-", dir=os.environ.get("DISK", top)) as disk:
         memory, disk = pathlib.Path(memory), pathlib.Path(disk)
@@ -255,7 +299,8 @@ def main():
         end_to_end(memory)
         rate(disk, loop, rounds, count)
         idle(memory, seconds)
-        attack(memory, attacks)
+        attack_console(memory, attacks)
+        attack_controller(memory, attacks)
 
 
 main()

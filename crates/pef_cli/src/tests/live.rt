@@ -148,10 +148,20 @@ fn check(rt: &impl Abort, alloc: Global, case: &Case<'_>) -> Result<(), AllocErr
     Ok(())
 }
 
-#[test]
-fn a_controller_takes_what_a_feed_gives(rt: HostRuntime) -> Result<(), Fail> {
-    let alloc = rt.alloc();
-    let waits = waiting(&rt, alloc)?;
+// Files of a controller: its alert waits, and behind that a second passed, three passed, it was acknowledged, three seconds passed after
+// that, or a script was begun.
+#[derive(Drop)]
+struct Stages {
+    waits: Vec<u8>,
+    second: Vec<u8>,
+    again: Vec<u8>,
+    over: Vec<u8>,
+    quiet: Vec<u8>,
+    begun: Vec<u8>,
+}
+
+fn make_stages(rt: &impl Abort, alloc: Global) -> Result<Stages, AllocError> {
+    let waits = waiting(rt, alloc)?;
     let entry = acknowledged();
     let again = file_behind(alloc, waits.as_slice(), &[&SECOND, &SECOND, &SECOND, &DONE])?;
     let over = file_behind(alloc, again.as_slice(), &[entry.as_slice(), &DONE])?;
@@ -162,14 +172,25 @@ fn a_controller_takes_what_a_feed_gives(rt: HostRuntime) -> Result<(), Fail> {
         over.as_slice(),
         &[&[0xa5, 9, 0, 5, 1, 0, 0, 0, 2, 0, 0, 0]],
     )?;
+    Ok(Stages {
+        waits,
+        second,
+        again,
+        over,
+        quiet,
+        begun,
+    })
+}
+
+fn check_all(rt: &impl Abort, alloc: Global, files: &Stages) -> Result<(), AllocError> {
     let all = Case {
         what: "up to the end",
-        file: waits.as_slice(),
+        file: files.waits.as_slice(),
         number: "1000000000",
         failing_feed: &[],
         status: 0,
         written: ACKNOWLEDGED,
-        after: over.as_slice(),
+        after: files.over.as_slice(),
         sent: 2,
     };
     let cases = [
@@ -179,16 +200,16 @@ fn a_controller_takes_what_a_feed_gives(rt: HostRuntime) -> Result<(), Fail> {
             number: "3",
             failing_feed: &[3],
             written: SENT_AGAIN,
-            after: again.as_slice(),
+            after: files.again.as_slice(),
             sent: 1,
             ..all
         },
         Case {
             what: "an alert that is over",
-            file: over.as_slice(),
+            file: files.over.as_slice(),
             number: "3",
             written: "tick\ntick\ntick\nok 3\n",
-            after: quiet.as_slice(),
+            after: files.quiet.as_slice(),
             sent: 0,
             ..all
         },
@@ -197,17 +218,17 @@ fn a_controller_takes_what_a_feed_gives(rt: HostRuntime) -> Result<(), Fail> {
             failing_feed: &[1],
             status: 6,
             written: "tick\ninput failed\n",
-            after: second.as_slice(),
+            after: files.second.as_slice(),
             sent: 0,
             ..all
         },
         Case {
             what: "an unfinished script",
-            file: begun.as_slice(),
+            file: files.begun.as_slice(),
             failing_feed: &[0],
             status: 5,
             written: "unfinished 00000001 2\n",
-            after: begun.as_slice(),
+            after: files.begun.as_slice(),
             sent: 0,
             ..all
         },
@@ -222,8 +243,16 @@ fn a_controller_takes_what_a_feed_gives(rt: HostRuntime) -> Result<(), Fail> {
         },
     ];
     for case in &cases {
-        check(&rt, alloc, case)?;
+        check(rt, alloc, case)?;
     }
+    Ok(())
+}
+
+#[test]
+fn a_controller_takes_what_a_feed_gives(rt: HostRuntime) -> Result<(), Fail> {
+    let alloc = rt.alloc();
+    let files = make_stages(&rt, alloc)?;
+    check_all(&rt, alloc, &files)?;
     Ok(())
 }
 
