@@ -126,7 +126,7 @@ fn call_over_feed<'a>(
     asked: &Asked<'a>,
 ) -> Result<u8, NoStart<'a>> {
     let Some(at) = address(asked.second.as_bytes()) else {
-        // such words are no form
+        // `paths` has read the address too, so this doesn't happen
         return call_without_files(rt, words);
     };
     let alloc = rt.alloc();
