@@ -5,7 +5,7 @@ It builds nothing: it takes crates/pef_cli/out/pef_cli, which ./demo at the top 
 standard (IPMI 2.0, chapters 13, 17, 23, 30 and 32; ASF 2.0; PET 1.0; RFC 1157) and docs/COMMANDS.md, bit by bit, and knows nothing of the program's
 code. Alerts go to loopback alone, where nobody need receive them; one to port 0 fails. Each round makes
 a state file from random settings, after some that are refused, and compares the refusal and the file's octets with the model's. Then it
-runs a few scripts on it, and compares the report of each run and the plant's file with those of the model. A script is sometimes called
+runs a few scripts on it, and compares the report of each run, what `show` says behind it, and the plant's file with those of the model. A script is sometimes called
 in two halves: the first call gets a text that breaks off behind some lines. Sometimes it is run on a copy of the files too, by calls that
 are killed (SIGKILL) at random moments until one ends: the state file is the same then, octet for octet, and so is the plant's file, but
 for at most one repeat for each kill, right behind its twin.
@@ -561,6 +561,21 @@ class Controller:
         self.jobs(said, heard)
         return said
 
+    def page(self):
+        """What `show` says of it, but for its script, where no step is due."""
+        ident = lambda number: f"{self.log[number - 1][0] + 256 * self.log[number - 1][1]:04x}"
+        return [
+            f"records {len(self.log)}",
+            f"processed {self.done}",
+            f"last {ident(self.done) if self.done else '0000'}",
+            f"job {ident(self.number) if self.runs_job() else 'none'}",
+            f"immediate {self.status:02x}",
+            f"ticks {self.seconds}",
+            f"delay {self.delay}",
+            f"postpone {254 if self.postpone is None else self.postpone}",
+            f"sequence {self.drawn % 65535 + 1}",
+        ]
+
 
 def line(item):
     if item[0] == "event":
@@ -834,6 +849,15 @@ def run(state, script):
     return done.returncode, done.stdout.decode()
 
 
+def check_page(seed, number, state, script, page, taken):
+    """What `show` says, and that it changes nothing."""
+    before = state.read_bytes()
+    done = subprocess.run([program, "show", state], capture_output=True, timeout=60)
+    wanted = "\n".join(page + [f"script {taken}", "pending no", "ok 0"]) + "\n"
+    if (done.returncode, done.stdout.decode()) != (0, wanted) or state.read_bytes() != before:
+        wrong(seed, number, f"show: status {done.returncode}", script.read_text(), wanted, done.stdout.decode())
+
+
 def run_with_kills(some, state, script, span):
     """Runs the script until a call ends by itself; answers how many were killed before, each within a span that grows."""
     kills = 0
@@ -880,10 +904,14 @@ def play(folder, some, seed, number):
             wrong(seed, number, f"init: status {got[0]}", settings.read_text(), str(wanted), str(got))
     for which in range(some.randrange(1, 4)):
         items = ready(some) if which == 0 and some.random() < 0.8 else []
-        replies = [model.take(item) for item in items]
+        pages, replies = [model.page()], []
+        for item in items:
+            replies.append(model.take(item))
+            pages.append(model.page())
         for _ in range(some.randrange(1, 120)):
             items.append(random_item(some, model))
             replies.append(model.take(items[-1]))
+            pages.append(model.page())
         count = len(items)
         head = [f"script {which:08x} {count}"]
         lines = [line(item) for item in items]
@@ -897,6 +925,7 @@ def play(folder, some, seed, number):
             status, got = run(state, script)
             if (status, got) != (4, wanted):
                 wrong(seed, number, f"status {status}, first half", script.read_text(), wanted, got)
+            check_page(seed, number, state, script, pages[cut], f"{which:08x} {count} {cut} open")
             said, items, replies = [], items[cut:], replies[cut:]
         script.write_text("\n".join(head + lines + ["end"]) + "\n")
         copy, copied_plant = folder / "copy", folder / "copy.plant"
@@ -912,6 +941,7 @@ def play(folder, some, seed, number):
         status, got = run(state, script)
         if (status, got) != (0, wanted):
             wrong(seed, number, f"status {status}", script.read_text(), wanted, got)
+        check_page(seed, number, state, script, pages[-1], f"{which:08x} {count} {count} closed")
         if kills is not None:
             lines = copied_plant.read_text().splitlines()
             if copy.read_bytes() != state.read_bytes() or once(lines) != model.plant or len(lines) - len(model.plant) > kills:
@@ -937,7 +967,7 @@ def main():
         for number in range(rounds):
             some_acts, some_sends, some_kills = play(pathlib.Path(folder), some, seed, number)
             acts, sends, kills = acts + some_acts, sends + some_sends, kills + some_kills
-    print(f"{rounds} rounds, {acts} actions, {sends} traps, {kills} kills, seed {seed}: each run said and did what the model does")
+    print(f"{rounds} rounds, {acts} actions, {sends} traps, {kills} kills, seed {seed}: each run said and did what the model does, and so did show")
 
 
 main()

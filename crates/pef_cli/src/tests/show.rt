@@ -1,7 +1,7 @@
 // The form `show`: how a controller stands, which leaves its file as it is.
 use super::{
-    CLOSED, CONSOLE, Case, DONE, EVENT, FAILED, MADE, OPENED, SAID, SCRIPT, check, event,
-    file_with, no_feed, words_in,
+    CLOSED, CONSOLE, Case, DONE, EVENT, FAILED, MADE, OPENED, SAID, SCRIPT, check, file_with,
+    no_feed, words_in,
 };
 use crate::program::top;
 use board_core::{MemBoard, MemSink, MemSource};
@@ -110,6 +110,148 @@ const ONE_MORE: &str =
 
 const SAID_OF_ONE_MORE: &str = "open 00000005 2\nevent duplicate 0400\nevent full\nclose\nok 4\n";
 
+// An event that the filter doesn't match.
+const OTHER: [u8; 20] = [
+    0xa5, 17, 0, 1, 2, 0, 2, 0, 0xca, 0x9a, 0x3b, 0x20, 0, 4, 4, 0x30, 1, 0x53, 0x10, 0x20,
+];
+
+// A name, the entries of a file, and what is shown of it.
+type Row = (&'static str, &'static [&'static [u8]], Page);
+
+// Rows with a script, and without one.
+const SCRIPTS: [Row; 6] = [
+    ("a new file", &[], FRESH),
+    (
+        "a script without an item",
+        &[&OPENED],
+        Page {
+            script: "00000001 1 0 open",
+            ..FRESH
+        },
+    ),
+    (
+        "a job that runs in a script",
+        &[&OPENED, &EVENT],
+        Page {
+            script: "00000001 1 1 open",
+            ..RUNS
+        },
+    ),
+    (
+        "its step was issued",
+        &[&OPENED, &EVENT, &DONE],
+        Page {
+            script: "00000001 1 1 open",
+            ..PROCESSED
+        },
+    ),
+    (
+        "the script is closed",
+        &[&OPENED, &EVENT, &FAILED, &CLOSED],
+        Page {
+            script: "00000001 1 1 closed",
+            ..PROCESSED
+        },
+    ),
+    ("an event without a script", &[&EVENT], RUNS),
+];
+
+// Rows of records, and of the mark.
+const RECORDS: [Row; 6] = [
+    (
+        "a record that asks for nothing",
+        &[&EVENT, &DONE, &OTHER],
+        Page {
+            records: "2",
+            processed: "2",
+            last: "0002",
+            ..PROCESSED
+        },
+    ),
+    ("an event that is refused", &[&RESERVED], FRESH),
+    (
+        "an event that is held already",
+        &[&EVENT, &DONE, &EVENT],
+        PROCESSED,
+    ),
+    ("a log that is cleared", &[&EVENT, &DONE, &CLEARED], FRESH),
+    ("PEF is disabled", &[&OFF, &EVENT], HELD),
+    (
+        "PEF is disabled, and the mark is set",
+        &[&OFF, &EVENT, &OTHER, &MARKED_1],
+        Page {
+            records: "2",
+            ..PROCESSED
+        },
+    ),
+];
+
+// Rows of what holds records, and of an alert at once.
+const HOLDS: [Row; 6] = [
+    (
+        "the postpone timer",
+        &[&HELD_5, &EVENT, &TICK],
+        Page {
+            ticks: "1",
+            postpone: "4",
+            ..HELD
+        },
+    ),
+    (
+        "disabled for the time being",
+        &[&DISABLED, &EVENT, &TICK],
+        Page {
+            ticks: "1",
+            postpone: "254",
+            ..HELD
+        },
+    ),
+    (
+        "the startup delay",
+        &[&HELD_5, &DELAYS, &DELAY_3, &POWER, &EVENT, &TICK],
+        Page {
+            ticks: "1",
+            delay: "2",
+            ..HELD
+        },
+    ),
+    (
+        "an alert at once",
+        &[&TYPE, &ADDRESS, &AT_ONCE],
+        Page {
+            immediate: "ff",
+            sequence: "2",
+            pending: "yes",
+            ..FRESH
+        },
+    ),
+    (
+        "it was sent",
+        &[&TYPE, &ADDRESS, &AT_ONCE, &DONE],
+        Page {
+            immediate: "01",
+            sequence: "2",
+            ..FRESH
+        },
+    ),
+    (
+        "it failed",
+        &[&TYPE, &ADDRESS, &AT_ONCE, &FAILED],
+        Page {
+            immediate: "03",
+            sequence: "2",
+            ..FRESH
+        },
+    ),
+];
+
+// The page of a script that was closed behind one event, and all that is written of it.
+const WHOLE_PAGE: &str =
+    "records 1\nprocessed 1\nlast 0001\njob none\nimmediate 00\nticks 0\ndelay 0\npostpone 0\nsequence 1\nscript 00000001 1 1 closed\npending no\n";
+
+const WHOLE: &str =
+    "records 1\nprocessed 1\nlast 0001\njob none\nimmediate 00\nticks 0\ndelay 0\npostpone 0\nsequence 1\nscript 00000001 1 1 closed\npending no\nok 0\n";
+
 // All that `show` writes.
 fn text_of(alloc: Global, page: &Page) -> Result<String, AllocError> {
     format!(in alloc;
@@ -161,132 +303,27 @@ fn check_page(rt: &impl Abort, alloc: Global, what: &str, file: &[u8], page: &Pa
     check(rt, alloc, &SHOW, &case);
 }
 
-#[test]
-fn show_says_how_a_controller_stands(rt: HostRuntime) -> Result<(), Fail> {
-    let alloc = rt.alloc();
-    let other = event(2, 0x53);
-    let rows: [(&str, &[&[u8]], Page); 18] = [
-        ("a new file", &[], FRESH),
-        (
-            "a script without an item",
-            &[&OPENED],
-            Page {
-                script: "00000001 1 0 open",
-                ..FRESH
-            },
-        ),
-        (
-            "a job that runs in a script",
-            &[&OPENED, &EVENT],
-            Page {
-                script: "00000001 1 1 open",
-                ..RUNS
-            },
-        ),
-        (
-            "its step was issued",
-            &[&OPENED, &EVENT, &DONE],
-            Page {
-                script: "00000001 1 1 open",
-                ..PROCESSED
-            },
-        ),
-        (
-            "the script is closed",
-            &[&OPENED, &EVENT, &FAILED, &CLOSED],
-            Page {
-                script: "00000001 1 1 closed",
-                ..PROCESSED
-            },
-        ),
-        ("an event without a script", &[&EVENT], RUNS),
-        (
-            "a record that asks for nothing",
-            &[&EVENT, &DONE, &other],
-            Page {
-                records: "2",
-                processed: "2",
-                last: "0002",
-                ..PROCESSED
-            },
-        ),
-        ("an event that is refused", &[&RESERVED], FRESH),
-        (
-            "an event that is held already",
-            &[&EVENT, &DONE, &EVENT],
-            PROCESSED,
-        ),
-        ("a log that is cleared", &[&EVENT, &DONE, &CLEARED], FRESH),
-        ("PEF is disabled", &[&OFF, &EVENT], HELD),
-        (
-            "PEF is disabled, and the mark is set",
-            &[&OFF, &EVENT, &other, &MARKED_1],
-            Page {
-                records: "2",
-                ..PROCESSED
-            },
-        ),
-        (
-            "the postpone timer",
-            &[&HELD_5, &EVENT, &TICK],
-            Page {
-                ticks: "1",
-                postpone: "4",
-                ..HELD
-            },
-        ),
-        (
-            "disabled for the time being",
-            &[&DISABLED, &EVENT, &TICK],
-            Page {
-                ticks: "1",
-                postpone: "254",
-                ..HELD
-            },
-        ),
-        (
-            "the startup delay",
-            &[&HELD_5, &DELAYS, &DELAY_3, &POWER, &EVENT, &TICK],
-            Page {
-                ticks: "1",
-                delay: "2",
-                ..HELD
-            },
-        ),
-        (
-            "an alert at once",
-            &[&TYPE, &ADDRESS, &AT_ONCE],
-            Page {
-                immediate: "ff",
-                sequence: "2",
-                pending: "yes",
-                ..FRESH
-            },
-        ),
-        (
-            "it was sent",
-            &[&TYPE, &ADDRESS, &AT_ONCE, &DONE],
-            Page {
-                immediate: "01",
-                sequence: "2",
-                ..FRESH
-            },
-        ),
-        (
-            "it failed",
-            &[&TYPE, &ADDRESS, &AT_ONCE, &FAILED],
-            Page {
-                immediate: "03",
-                sequence: "2",
-                ..FRESH
-            },
-        ),
-    ];
+// Makes the file of each row, and calls `show` on it.
+fn check_rows(rt: &impl Abort, alloc: Global, rows: &[Row]) {
     for (what, entries, page) in rows {
-        let file = file_with(alloc, entries)?;
-        check_page(&rt, alloc, what, file.as_slice(), &page);
+        let file = file_with(alloc, entries).expect(rt, "memory");
+        check_page(rt, alloc, what, file.as_slice(), page);
     }
-    Ok(())
+}
+
+#[test]
+fn show_says_how_far_a_script_came(rt: HostRuntime) {
+    check_rows(&rt, rt.alloc(), &SCRIPTS);
+}
+
+#[test]
+fn show_says_which_records_are_processed(rt: HostRuntime) {
+    check_rows(&rt, rt.alloc(), &RECORDS);
+}
+
+#[test]
+fn show_says_what_holds_records_and_what_is_sent_at_once(rt: HostRuntime) {
+    check_rows(&rt, rt.alloc(), &HOLDS);
 }
 
 #[test]
@@ -352,14 +389,6 @@ fn show_says_what_stopped_it(rt: HostRuntime) -> Result<(), Fail> {
     let whole = file_with(alloc, &[&OPENED, &EVENT, &DONE, &CLOSED])?;
     let broken = file_with(alloc, &[&OPENED, &CLOSED])?;
     let told = file_with(alloc, &[&DONE])?;
-    let lines = text_of(
-        alloc,
-        &Page {
-            script: "00000001 1 1 closed",
-            ..PROCESSED
-        },
-    )?;
-    let page = &lines.as_str()[..lines.len() - 5];
     let shown = Case {
         what: "a record",
         file: whole.as_slice(),
@@ -369,7 +398,7 @@ fn show_says_what_stopped_it(rt: HostRuntime) -> Result<(), Fail> {
         failing_source: &[0],
         failing_sink: None,
         status: 0,
-        written: lines.as_str(),
+        written: WHOLE,
         after: whole.as_slice(),
         steps: &[],
     };
@@ -426,7 +455,7 @@ fn show_says_what_stopped_it(rt: HostRuntime) -> Result<(), Fail> {
             what: "a sink that fails at the last line",
             failing_sink: Some(1),
             status: 8,
-            written: page,
+            written: WHOLE_PAGE,
             ..shown
         },
     ];
