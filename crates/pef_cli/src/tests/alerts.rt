@@ -683,18 +683,22 @@ fn a_script_with_a_bad_line_goes_on_with_the_right_one(rt: HostRuntime) {
 
 // Whether these are the same steps, at most one of them twice in a row.
 fn repeats_at_most_one(steps: &[Sent], wanted: &[Sent]) -> bool {
-    let mut place = 0;
-    let mut again = 0;
+    let mut left = wanted;
+    let mut last = None;
+    let mut again = false;
     for one in steps {
-        if place < wanted.len() && is_same(&one.step, &wanted[place].step) {
-            place += 1;
-        } else if place > 0 && is_same(&one.step, &wanted[place - 1].step) {
-            again += 1;
-        } else {
-            return false;
+        match left {
+            [next, rest @ ..] if is_same(&one.step, &next.step) => {
+                last = Some(next);
+                left = rest;
+            }
+            _ => match last {
+                Some(sent) if !again && is_same(&one.step, &sent.step) => again = true,
+                _ => return false,
+            },
         }
     }
-    place == wanted.len() && again <= 1
+    left.is_empty()
 }
 
 #[test]
