@@ -91,7 +91,9 @@ fn file_of(alloc: Global) -> Result<Vec<u8>, AllocError> {
         let Some(octets) = octets_up_to::<512>(octets.as_bytes()) else {
             continue;
         };
-        let length = octets.as_slice().len() as u8 + 7;
+        let length = u8::try_from(octets.as_slice().len())
+            .unwrap_or(0)
+            .wrapping_add(7);
         file.extend_from_slice(&[0xa5, length, 0, 7, 10, 0, 0, 7, 0xa0, 0x0f])?;
         file.extend_from_slice(octets.as_slice())?;
     }
