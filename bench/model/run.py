@@ -873,9 +873,17 @@ def run_with_kills(some, state, script, span):
             kills += 1
 
 
-def once(lines):
-    """The lines without those that are the same as the one before."""
-    return [line for place, line in enumerate(lines) if place == 0 or line != lines[place - 1]]
+def repeats(lines, wanted):
+    """How many lines repeat the one before them, where they are those that are wanted but for such repeats; else None."""
+    place = again = 0
+    for line in lines:
+        if wanted[place : place + 1] == [line]:
+            place += 1
+        elif place > 0 and wanted[place - 1] == line:
+            again += 1
+        else:
+            return None
+    return again if place == len(wanted) else None
 
 
 def wrong(seed, number, what, script, wanted, got):
@@ -944,7 +952,8 @@ def play(folder, some, seed, number):
         check_page(seed, number, state, script, pages[-1], f"{which:08x} {count} {count} closed")
         if kills is not None:
             lines = copied_plant.read_text().splitlines()
-            if copy.read_bytes() != state.read_bytes() or once(lines) != model.plant or len(lines) - len(model.plant) > kills:
+            again = repeats(lines, model.plant)
+            if copy.read_bytes() != state.read_bytes() or again is None or again > kills:
                 wrong(seed, number, f"behind {kills} kills", script.read_text(), "\n".join(model.plant), "\n".join(lines))
             model.kills += kills
         plant = "".join(act + "\n" for act in model.plant)
