@@ -1,7 +1,1 @@
-pub mod Words
-pub mod Init
-pub mod Kinds
-pub mod Top
-pub mod Receiving
-pub mod Listing
 pub mod Reading

@@ -1,5 +1,5 @@
 //! What a form's words name.
-use crate::form::Form;
+use pef_call::Form;
 
 /// A form, the names of its files and the address of its feed.
 #[derive(Clone, Copy, Debug)]

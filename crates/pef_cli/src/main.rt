@@ -1,26 +1,15 @@
 //! Platform event filtering from the command line.
 #![tactic(auto)]
 
-mod arrivals;
 mod asked;
-mod form;
-mod init_fault;
-mod initializing;
-mod kinds;
-mod listening;
-mod listing;
 mod no_start;
 mod opening;
-mod program;
-mod receiving;
 mod remark;
-mod showing;
 mod starting;
 mod state_reader;
 mod unformatted;
-mod words;
 
-use form::FORMS;
+use pef_call::FORMS;
 use starting::start;
 use std::process::ExitCode;
 

@@ -1,6 +1,6 @@
 //! Opening the files and the socket that a form's words name.
 use crate::asked::Asked;
-use crate::form::Form;
+use pef_call::Form;
 use crate::no_start::NoStart;
 use crate::state_reader::StateReader;
 use board_core::Address;

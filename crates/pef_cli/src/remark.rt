@@ -1,6 +1,6 @@
 //! What a person reads on standard error behind a call.
 use crate::asked::Asked;
-use crate::form::Form;
+use pef_call::Form;
 use crate::state_reader::StateReader;
 use crate::unformatted::{Unformatted, why_unformatted};
 use board_core::Board;

@@ -1,0 +1,6 @@
+pub mod Words
+pub mod Init
+pub mod Kinds
+pub mod Top
+pub mod Receiving
+pub mod Listing
