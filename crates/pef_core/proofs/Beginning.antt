@@ -4,11 +4,12 @@ use Rattle.std.specs.Prelude.{not, ◌&&◌, is_some, slice_get, option_map}
 use Rattle.std.proofs.lemmas.List.{at_drop_more, at_drop_all}
 use Rattle.std.proofs.lemmas.Bool.{cond-true}
 use Rattle.std.proofs.lemmas.Option.{slice_get_within, get_or_from_slice_get, slice_get_cases}
+use Rattle.job_course.specs.declared.turn.Turn.{Turn}
+use Rattle.job_course.specs.declared.work.Work.{Work}
+use Rattle.job_course.specs.Turns.{first_turn}
 use Rattle.pef_core.specs.declared.controller.Controller.{Controller}
-use Rattle.pef_core.specs.declared.turn.Turn.{Turn}
-use Rattle.pef_core.specs.declared.work.Work.{Work}
 use Rattle.pef_core.specs.Values.{Now, Values, stamp_at, force_of}
-use Rattle.pef_core.specs.After.{first_turn, work_of, begins, begin_with, begin_jobs_now, begun, may_begin_now, with_next_job}
+use Rattle.pef_core.specs.After.{work_of, begins, begin_with, begin_jobs_now, begun, may_begin_now, with_next_job}
 use Rattle.pef_core.specs.View.{shown}
 
 abbrev with_now : Values → Now → Values
