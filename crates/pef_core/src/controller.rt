@@ -284,7 +284,9 @@ impl Controller {
         ensures values { shown self.new ≡ with_next_job (shown self.old) }
         ensures script { self.new.script ≡ self.old.script }
     {
-        if self.running.is_none() && self.may_begin() {
+        // Tested before `begin_jobs` is entered, which makes room for a whole job: most entries of a long history find no record waiting.
+        let waits = self.mark < self.log.len();
+        if waits && self.running.is_none() && self.may_begin() {
             self.begin_jobs();
         }
     }
