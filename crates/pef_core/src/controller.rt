@@ -10,7 +10,7 @@ use crate::item::{Item, step_in};
 use crate::note::Note;
 use crate::postpone::Postpone;
 use board_core::{Address, Octets, Step, Told};
-use event_record::Log;
+use event_record::{Log, Record};
 use frame_answers::{Replies, answered};
 use job_course::{Counts, Own, Progress, Running, Turn, Work, first_turn};
 use lan_dest::Lan;
@@ -49,7 +49,7 @@ pub struct Controller {
 }
 
 impl Controller {
-    ghost use Rattle.std.specs.Prelude.{◌≡◌, ◌<◌, ◌≤◌, ◌+◌, ◌-◌, ◌*◌, ℕ, [], ◌∷◌, List, Some, None, IfOk, IsSome, IfSome, length, option_copied, option_map, slice_get};
+    ghost use Rattle.std.specs.Prelude.{◌≡◌, ◌<◌, ◌≤◌, ◌+◌, ◌-◌, ◌*◌, ℕ, [], ◌∷◌, List, Some, None, IfOk, IsSome, IfSome, length, option_copied, slice_get};
     ghost use Rattle.pef_config.specs.Kept.{tables};
     ghost use Rattle.pef_engine.specs.Scripts.{MayCome, script_with, script_from};
     ghost use Rattle.job_course.specs.Running.{IsTurn, MayCountNow};
@@ -304,18 +304,26 @@ impl Controller {
         self.config.control() % 2 == 1
     }
 
-    // What is to be begun for the record behind the mark, and none where all are processed.
-    fn waiting(&self) -> Option<Work>
-        ensures work { result ≡ option_map (work_of (force_of (shown self.now)) (self.now.mark + 1)) (slice_get self.now.log self.now.mark) }
+    // The record behind the mark, and none where all are processed.
+    fn waiting(&self) -> Option<Record>
+        ensures event { result ≡ slice_get self.now.log self.now.mark }
         ensures within { IsSome result → self.now.mark < 1024 }
     {
         let event = self.log.get(self.mark)?;
         prove!(self.mark < self.log.len());
-        Some(Work {
+        Some(*event)
+    }
+
+    // What is to be begun for this record, which stands behind the mark.
+    fn work_for(&self, event: &Record) -> Work
+        requires { self.now.mark < 1024 }
+        ensures { result ≡ work_of (force_of (shown self.now)) (self.now.mark + 1) event.now }
+    {
+        Work {
             number: Some(self.mark + 1),
             job: job_of(&self.config, &self.lan, &self.own.ports, event),
             guid: self.guid(),
-        })
+        }
     }
 
     /// The system GUID in force.
@@ -344,7 +352,8 @@ impl Controller {
         ensures values { shown self.new ≡ begun (shown self.old) }
         ensures script { self.new.script ≡ self.old.script }
     {
-        'records: while let Some(work) = self.waiting() {
+        'records: while let Some(event) = self.waiting() {
+            let work = self.work_for(&event);
             let turn = first_turn(&work.job);
             if turn.is_some() {
                 self.begin(work, turn, None);
