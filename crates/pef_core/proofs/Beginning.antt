@@ -1,14 +1,15 @@
 -- One turn of the loop that begins jobs.
 use Rattle.std.proofs.Common.{◌≡◌, ℕ, ◌+◌, ◌<◌, ◌≤◌, ◌⊎◌, inl, inr, true, false, List, ◌∷◌, drop, length, Some, None, sym, ◌∙◌, ap, get_or, refl, Option}
-use Rattle.std.specs.Prelude.{not, ◌&&◌, is_some, slice_get, option_map}
+use Rattle.std.specs.Prelude.{not, ◌&&◌, is_some, slice_get}
 use Rattle.std.proofs.lemmas.List.{at_drop_more, at_drop_all}
 use Rattle.std.proofs.lemmas.Bool.{cond-true}
 use Rattle.std.proofs.lemmas.Option.{slice_get_within, get_or_from_slice_get, slice_get_cases}
+use Rattle.job_course.specs.declared.turn.Turn.{Turn}
+use Rattle.job_course.specs.declared.work.Work.{Work}
+use Rattle.job_course.specs.Turns.{first_turn}
 use Rattle.pef_core.specs.declared.controller.Controller.{Controller}
-use Rattle.pef_core.specs.declared.turn.Turn.{Turn}
-use Rattle.pef_core.specs.declared.work.Work.{Work}
 use Rattle.pef_core.specs.Values.{Now, Values, stamp_at, force_of}
-use Rattle.pef_core.specs.After.{first_turn, work_of, begins, begin_with, begin_jobs_now, begun, may_begin_now, with_next_job}
+use Rattle.pef_core.specs.After.{work_of, begins, begin_with, begin_jobs_now, begun, may_begin_now, with_next_job}
 use Rattle.pef_core.specs.View.{shown}
 
 abbrev with_now : Values → Now → Values
@@ -24,15 +25,8 @@ pub record Waits (c : Controller) (w : Work) : Type 0 where
   pub there : slice_get c.log c.mark ≡ Some event
   pub is : w ≡ work_for c event
 
-pub waits : (c : Controller) (o : Option Work) (w : Work) → o ≡ option_map (work_for c) (slice_get c.log c.mark) → o ≡ Some w → Waits c w
-waits c o w is some = by (slice_get c.log c.mark) refl
-  where
-    by : (r : Option (List ℕ)) → slice_get c.log c.mark ≡ r → Waits c w
-    by None none = absurd (not_none (sym some ∙ is ∙ ap (option_map (work_for c)) none))
-      where
-        not_none : Some w ≡ None → ⊥
-        not_none e = cc
-    by (Some event) there = record { event = event; there = there; is = let same : Some w ≡ Some (work_for c event) = sym some ∙ is ∙ ap (option_map (work_for c)) there in cc same }
+pub waits : (c : Controller) (o : Option (List ℕ)) (event : List ℕ) (w : Work) → o ≡ slice_get c.log c.mark → o ≡ Some event → w ≡ work_for c event → Waits c w
+waits c o event w is some begun_is = record { event = event; there = sym is ∙ some; is = begun_is }
 
 module _ (c : Controller) (w : Work) (waiting : Waits c w) where
   abbrev later : Now → Now
@@ -57,13 +51,13 @@ module _ (c : Controller) (w : Work) (waiting : Waits c w) where
   begins_then (Some t) some first = sym (turn ∙ ap (λ o. with_now (shown c) (begin_with later (c.mark + 1) w (stamp_at c.ticks) o (shown c).now)) first)
 
 -- no record is left
-pub ends : (c : Controller) → option_map (work_for c) (slice_get c.log c.mark) ≡ None → shown c ≡ begun (shown c)
+pub ends : (c : Controller) → slice_get c.log c.mark ≡ None → shown c ≡ begun (shown c)
 ends c none =
     sym (ap (with_now (shown c)) (at_drop_all (λ events. begin_jobs_now (force_of (shown c)) (stamp_at c.ticks) events (shown c).now) c.log c.mark (past_end (slice_get_cases c.log c.mark).1)))
   where
     past_end : ((x : List ℕ) × (c.mark < length c.log) × (slice_get c.log c.mark ≡ Some x) × (get_or c.log c.mark x ≡ x)) ⊎ ((length c.log ≤ c.mark) × (slice_get c.log c.mark ≡ None)) → length c.log ≤ c.mark
     past_end (inr past) = past.0
-    past_end (inl found) = let some = sym (ap (option_map (work_for c)) found.2) ∙ none in absurd (cc some)
+    past_end (inl found) = let some = sym found.2 ∙ none in absurd (cc some)
 
 -- a job may begin
 pub next_is_begun : (v : Values) → is_some v.now.running ≡ false → may_begin_now v ≡ true → begun v ≡ with_next_job v

@@ -12,20 +12,21 @@ use Rattle.pef_match.specs.declared.target.Target.{Target}
 use Rattle.pef_match.proofs.Sets.{all_within}
 use Rattle.pef_engine.specs.declared.entry.Entry.{Entry}
 use Rattle.board_core.specs.declared.step.Act.{Act}
+use Rattle.job_course.specs.declared.counts.Counts.{Counts}
+use Rattle.job_course.specs.declared.own.Own.{Own}
+use Rattle.job_course.specs.declared.part.Part.{Part}
+use Rattle.job_course.specs.declared.part.Part.TheVariants.{Acting, Alerting, Calling}
+use Rattle.job_course.specs.declared.turn.Turn.{Turn}
+use Rattle.job_course.specs.declared.work.Work.{Work}
+use Rattle.job_course.specs.declared.turn.Turn.TheVariants.{ToAct, ToAlert, ToCall}
+use Rattle.job_course.specs.Steps.{is_due, trap_step, part_step}
+use Rattle.job_course.specs.Undertaking.{Undertaking, is_running, turn_of, cut_of, target_at}
+use Rattle.job_course.specs.Running.{Running, IsOpenPart}
 use Rattle.pef_core.specs.declared.controller.Controller.{Controller}
-use Rattle.pef_core.specs.declared.counts.Counts.{Counts}
 use Rattle.pef_core.specs.declared.item.Item.{Item}
-use Rattle.pef_core.specs.declared.own.Own.{Own}
-use Rattle.pef_core.specs.declared.part.Part.{Part}
-use Rattle.pef_core.specs.declared.part.Part.TheVariants.{Acting, Alerting, Calling}
-use Rattle.pef_core.specs.declared.turn.Turn.{Turn}
-use Rattle.pef_core.specs.declared.work.Work.{Work}
-use Rattle.pef_core.specs.Histories.{is_due, trap_step, part_step, running_step}
-use Rattle.pef_core.specs.declared.turn.Turn.TheVariants.{ToAct, ToAlert, ToCall}
+use Rattle.pef_core.specs.Histories.{running_step}
 use Rattle.pef_core.specs.Settings.{ports_of}
 use Rattle.pef_core.specs.Past.{Effect, Unchanged, SetPef, SetLan, Acked, Armed, Marked, SoftwareMarked, Cleared, Sends, StatusCleared, Deed, Logged, Dropped, Replied, Framed, Passed, Ticked, Powered, WasTold, ReplySent, effect_of, cleared_by, records_with, log, pef, lan_tables, delay, postpone, ticks, counts_of}
-use Rattle.pef_core.specs.Undertaking.{Undertaking, is_running, turn_of, cut_of, target_at}
-use Rattle.pef_core.specs.Running.{Running, IsOpenPart}
 use Rattle.pef_core.specs.Course.{Course, Force, force, begun, drawn_by, is_busy, mark_behind, counted_by, counted, moved_by, number_at, number_of, with_effect, moved, may_begin, begin_jobs, next_job, course}
 use Rattle.pef_core.specs.Values.{work_in, part_in, running_at, running, values}
 use Rattle.pef_core.specs.Deeds.{deed, past_behind, past_of}

@@ -18,27 +18,27 @@ use Rattle.pef_match.specs.AtOnce.{at_once}
 use Rattle.pef_match.specs.Parts.{Parts}
 use Rattle.pef_match.specs.declared.target.Target.{Target}
 use Rattle.pef_config.specs.Kept.{tables}
+use Rattle.job_course.specs.declared.counts.Counts.{Counts}
+use Rattle.job_course.specs.declared.counts.Counts.TheVariants.{Second, Ack}
+use Rattle.job_course.specs.declared.turn.Turn.{Turn}
+use Rattle.job_course.specs.declared.turn.Turn.TheVariants.{ToAlert}
+use Rattle.job_course.specs.declared.work.Work.{Work}
+use Rattle.job_course.specs.Running.{Running, IsTurn}
+use Rattle.job_course.specs.Undertaking.{set_at}
+use Rattle.job_course.proofs.TurnOrder.{eq_self}
 use Rattle.pef_core.specs.declared.controller.Controller.{Controller}
-use Rattle.pef_core.specs.declared.counts.Counts.{Counts}
-use Rattle.pef_core.specs.declared.counts.Counts.TheVariants.{Second, Ack}
 use Rattle.pef_core.specs.declared.item.Item.TheVariants.{Event}
 use Rattle.pef_core.specs.declared.note.Note.{Note}
 use Rattle.pef_core.specs.declared.note.Note.TheVariants.{Nothing}
 use Rattle.pef_core.specs.declared.postpone.Postpone.{Postpone}
 use Rattle.pef_core.specs.declared.postpone.Postpone.TheVariants.{Seconds}
-use Rattle.pef_core.specs.declared.turn.Turn.{Turn}
-use Rattle.pef_core.specs.declared.turn.Turn.TheVariants.{ToAlert}
-use Rattle.pef_core.specs.declared.work.Work.{Work}
 use Rattle.pef_core.specs.Past.{Unchanged, SetPef, SetLan, Armed, Marked, SoftwareMarked, Cleared, Sends, Replied, Ticked, Powered, WasTold, delay_by, less_by, records_with, note_with}
 use Rattle.pef_core.specs.Course.{guid_by, number_of}
-use Rattle.pef_core.specs.Running.{Running, IsTurn}
-use Rattle.pef_core.specs.Undertaking.{set_at}
 use Rattle.pef_core.specs.Values.{Now, Values, stamp_at, force_of}
 use Rattle.pef_core.specs.Deeds.{event_deed, item_deed, reply_deed, frame_deed, told_deed}
 use Rattle.pef_core.specs.Replies.{Answer, refusal, telling, done_with, answer_to_write, timer_octet, armed_by, arm, is_no_string, cleared}
 use Rattle.pef_core.specs.After.{begins, counted_now, moved_by, with_deed}
 use Rattle.pef_core.specs.View.{shown}
-use Rattle.pef_core.proofs.TurnOrder.{eq_self}
 
 event_changes : (bad : Option RecordFault) (full : Option LogFault) (event : List ℕ) (v : Values)
     → record v { records = records_with (event_deed bad full event) v.records; note = note_with (event_deed bad full event) Nothing; reply = None }

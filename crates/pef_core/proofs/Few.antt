@@ -15,17 +15,18 @@ use Rattle.frame_answers.proofs.Short.{are_short}
 use Rattle.pef_engine.specs.declared.entry.Entry.{Entry}
 use Rattle.pef_engine.specs.declared.entry.Entry.TheVariants.{Item as Taken, Outcome}
 use Rattle.pef_engine.specs.Rules.{Allowed, LawfulFrom, Lawful}
+use Rattle.job_course.specs.declared.turn.Turn.{Turn}
+use Rattle.job_course.specs.Running.{Running}
+use Rattle.job_course.specs.Turns.{first_turn}
 use Rattle.pef_core.specs.declared.controller.Controller.{Controller}
 use Rattle.pef_core.specs.declared.item.Item.{Item}
 use Rattle.pef_core.specs.declared.item.Item.TheVariants.{Event, Command, Frame, Tick, Power, Open, Close}
-use Rattle.pef_core.specs.declared.turn.Turn.{Turn}
 use Rattle.pef_core.specs.Past.{Framed, Passed, Ticked, Powered, WasTold, ReplySent}
 use Rattle.pef_core.specs.Course.{Force}
-use Rattle.pef_core.specs.Running.{Running}
 use Rattle.pef_core.specs.Values.{Now, Values, stamp_at, force_of}
 use Rattle.pef_core.specs.Replies.{runs_alert, answer}
 use Rattle.pef_core.specs.Deeds.{event_deed, reply_deed, frame_deed, told_deed, item_deed, deed, standing}
-use Rattle.pef_core.specs.After.{first_turn, work_of, begin_with, begin_jobs_now, begun, with_deed, may_begin_now, with_next_job, values_after}
+use Rattle.pef_core.specs.After.{work_of, begin_with, begin_jobs_now, begun, with_deed, may_begin_now, with_next_job, values_after}
 use Rattle.pef_core.specs.Histories.{running_step, due_in, controller_rules}
 use Rattle.pef_core.specs.Left.{now_left, left}
 use Rattle.pef_core.specs.View.{shown, ShowsController}

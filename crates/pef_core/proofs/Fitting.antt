@@ -13,13 +13,13 @@ use Rattle.event_record.specs.Rules.{record_fault}
 use Rattle.event_record.specs.Log.{add_fault}
 use Rattle.pef_config.specs.Rows.{answer_if, set_code}
 use Rattle.pef_match.specs.declared.target.Target.{Target}
+use Rattle.job_course.specs.declared.turn.Turn.{Turn}
+use Rattle.job_course.specs.Undertaking.{Undertaking, turn_of, is_running}
+use Rattle.job_course.specs.Running.{Running}
 use Rattle.pef_core.specs.declared.item.Item.{Item}
 use Rattle.pef_core.specs.declared.item.Item.TheVariants.{Event, Command, Frame, Tick, Power, Open, Close}
-use Rattle.pef_core.specs.declared.turn.Turn.{Turn}
 use Rattle.pef_core.specs.Past.{Effect, Unchanged, SetPef, SetLan, Acked, Armed, Marked, SoftwareMarked, Cleared, Sends, StatusCleared, Deed, effect_of, ticks}
-use Rattle.pef_core.specs.Undertaking.{Undertaking, turn_of, is_running}
 use Rattle.pef_core.specs.Course.{guid_by, is_busy, course}
-use Rattle.pef_core.specs.Running.{Running}
 use Rattle.pef_core.specs.Values.{Values, running_at, running, values, force_of}
 use Rattle.board_core.specs.declared.step.Step.{Step}
 use Rattle.board_core.specs.declared.step.Told.{Told}

@@ -15,22 +15,25 @@ use Rattle.policy_walk.specs.Tried.{Wanted, Any, is_tried, passed}
 use Rattle.pef_match.specs.declared.target.Target.{Target}
 use Rattle.pef_match.specs.Parts.{Parts}
 use Rattle.pef_match.proofs.Sets.{all_within}
-use Rattle.pef_core.specs.declared.counts.Counts.TheVariants.{Heard}
-use Rattle.pef_core.specs.declared.part.Part.{Part}
-use Rattle.pef_core.specs.declared.part.Part.TheVariants.{Acting, Alerting, Calling}
-use Rattle.pef_core.specs.declared.own.Own.{Own}
-use Rattle.pef_core.specs.declared.turn.Turn.{Turn}
-use Rattle.pef_core.specs.declared.turn.Turn.TheVariants.{ToAct, ToAlert, ToCall}
-use Rattle.pef_core.specs.declared.work.Work.{Work}
 use Rattle.board_core.specs.declared.step.Step.{Step}
+use Rattle.job_course.specs.declared.counts.Counts.TheVariants.{Heard}
+use Rattle.job_course.specs.declared.part.Part.{Part}
+use Rattle.job_course.specs.declared.part.Part.TheVariants.{Acting, Alerting, Calling}
+use Rattle.job_course.specs.declared.own.Own.{Own}
+use Rattle.job_course.specs.declared.turn.Turn.{Turn}
+use Rattle.job_course.specs.declared.turn.Turn.TheVariants.{ToAct, ToAlert, ToCall}
+use Rattle.job_course.specs.declared.work.Work.{Work}
+use Rattle.job_course.specs.Undertaking.{one_set, set_at, stops_at, target_at, first_stage, turn_in, turn_at}
+use Rattle.job_course.specs.Running.{Running, IsOpenPart, MayCount}
+use Rattle.job_course.specs.Turns.{turn_from, turn_or_next, turn_behind, first_turn}
+use Rattle.job_course.specs.Progress.{part_after, result_after, part_begun, progress, progress_by}
+use Rattle.job_course.specs.Steps.{is_due, trap_step, part_step}
+use Rattle.job_course.proofs.TurnOrder.{starts}
 use Rattle.pef_core.specs.Past.{WasTold, ReplySent}
 use Rattle.pef_core.specs.Course.{Force, mark_behind}
 use Rattle.pef_core.specs.Values.{Now, Values, stamp_at, force_of}
-use Rattle.pef_core.specs.Undertaking.{one_set, set_at, stops_at, target_at, first_stage, turn_in, turn_at}
-use Rattle.pef_core.specs.Running.{Running, IsOpenPart, MayCount}
-use Rattle.pef_core.specs.After.{part_after, result_after, turn_from, turn_or_next, turn_behind, first_turn, part_begun, begins, progress, progress_by, now_with, counted_now, work_of, begin_with, begin_jobs_now, begun, with_deed, may_begin_now, with_next_job}
-use Rattle.pef_core.proofs.TurnOrder.{starts}
-use Rattle.pef_core.specs.Histories.{is_due, trap_step, part_step, running_step, first_or}
+use Rattle.pef_core.specs.After.{begins, now_with, counted_now, work_of, begin_with, begin_jobs_now, begun, with_deed, may_begin_now, with_next_job}
+use Rattle.pef_core.specs.Histories.{running_step, first_or}
 use Rattle.pef_core.specs.Left.{oem_left, part_left, turn_left, progress_left, now_left, left}
 
 -- the place of a stop that is tried, in a list that begins at this place

@@ -1,5 +1,4 @@
 pub mod AlertExamples
-pub mod TurnOrder
 pub mod Standing
 pub mod LeftSteps
 pub mod Deeds

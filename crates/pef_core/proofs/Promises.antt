@@ -8,15 +8,15 @@ use Rattle.board_core.specs.declared.step.Told.TheVariants.{Done, Failed}
 use Rattle.pef_engine.specs.declared.entry.Entry.{Entry}
 use Rattle.pef_match.specs.Parts.{Parts}
 use Rattle.policy_walk.specs.Tried.{place_after}
-use Rattle.pef_core.specs.declared.counts.Counts.{Counts}
-use Rattle.pef_core.specs.declared.counts.Counts.TheVariants.{Second, Ack, Heard}
+use Rattle.job_course.specs.declared.counts.Counts.{Counts}
+use Rattle.job_course.specs.declared.counts.Counts.TheVariants.{Second, Ack, Heard}
+use Rattle.job_course.specs.declared.turn.Turn.{Turn}
+use Rattle.job_course.specs.declared.turn.Turn.TheVariants.{ToAct, ToAlert, ToCall}
+use Rattle.job_course.specs.Undertaking.{Undertaking, Stage, First, InSet, Finished, stops_at, first_stage, set_at, results_in, turn_in, turn_at, stage_after, sequence_behind, result_of, ended_or, joined, cut_by, cut_of, turn_of, is_running}
+use Rattle.job_course.specs.Counting.{outcomes, outcome_in}
 use Rattle.pef_core.specs.declared.item.Item.{Item}
-use Rattle.pef_core.specs.declared.turn.Turn.{Turn}
-use Rattle.pef_core.specs.declared.turn.Turn.TheVariants.{ToAct, ToAlert, ToCall}
 use Rattle.pef_core.specs.Past.{Effect, Unchanged, SetPef, SetLan, Acked, Armed, Marked, SoftwareMarked, Cleared, Sends, StatusCleared, Deed, Logged, Dropped, Replied, Framed, Passed, Ticked, Powered, WasTold, ReplySent, effect_of, log, pef, delay, postpone, counts_of}
-use Rattle.pef_core.specs.Undertaking.{Undertaking, Stage, First, InSet, Finished, stops_at, first_stage, set_at, results_in, turn_in, turn_at, stage_after, sequence_behind, result_of, ended_or, joined, cut_by, cut_of, turn_of, is_running}
 use Rattle.pef_core.specs.Course.{Course, force, begun, drawn_by, is_busy, mark_behind, counted_by, counted, moved_by, with_effect, moved, may_begin, begin_jobs, next_job, course}
-use Rattle.pef_core.specs.Counting.{outcomes, outcome_in}
 use Rattle.pef_core.specs.Deeds.{deed, past_behind, past_of}
 use Rattle.pef_core.specs.Promises.{numbers, reached_by, reached, numbers_behind, GoesInOrder, moves_mark, NoneMoves, BeganFor, BeganAtOnce, AllBegan, heard_by}
 use Rattle.pef_core.specs.Values.{values}

@@ -1,14 +1,14 @@
 -- Each transmission of an alert is the same datagram.
 use Rattle.std.proofs.Common.{◌≡◌, ℕ, ◌+◌, ◌-◌, ◌≤◌, Bool, List, [], ◌∷◌, ◌++◌, Option, Some, None, refl, sym, ◌∙◌, ap, arith}
-use Rattle.pef_core.specs.declared.counts.Counts.{Counts}
-use Rattle.pef_core.specs.declared.counts.Counts.TheVariants.{Second, Ack, Heard}
-use Rattle.pef_core.specs.declared.own.Own.{Own}
-use Rattle.pef_core.specs.declared.turn.Turn.{Turn}
-use Rattle.pef_core.specs.declared.turn.Turn.TheVariants.{ToAlert}
-use Rattle.pef_core.specs.Counting.{all_seconds}
-use Rattle.pef_core.specs.Undertaking.{Undertaking, Cut, target_at, sequence_behind, turn_at, one_if_alert, result_of, ended_or, joined, cut_by, cut_of, turn_of}
+use Rattle.job_course.specs.declared.counts.Counts.{Counts}
+use Rattle.job_course.specs.declared.counts.Counts.TheVariants.{Second, Ack, Heard}
+use Rattle.job_course.specs.declared.own.Own.{Own}
+use Rattle.job_course.specs.declared.turn.Turn.{Turn}
+use Rattle.job_course.specs.declared.turn.Turn.TheVariants.{ToAlert}
+use Rattle.job_course.specs.Counting.{all_seconds}
+use Rattle.job_course.specs.Undertaking.{Undertaking, Cut, target_at, sequence_behind, turn_at, one_if_alert, result_of, ended_or, joined, cut_by, cut_of, turn_of}
+use Rattle.job_course.specs.Steps.{trap_step}
 use Rattle.pef_core.specs.Values.{stamp_at, alert_in, work_in}
-use Rattle.pef_core.specs.Histories.{trap_step}
 use Rattle.pef_core.specs.Promises.{with_later, IsSent}
 
 -- alerts that are over stay so

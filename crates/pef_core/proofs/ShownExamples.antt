@@ -6,11 +6,11 @@ use Rattle.hex.specs.Hex.{encode_with}
 use Rattle.board_core.specs.declared.step.Act.TheVariants.{Reset}
 use Rattle.pef_engine.specs.declared.entry.Entry.{Entry}
 use Rattle.pef_engine.specs.declared.entry.Entry.TheVariants.{Item as Taken}
+use Rattle.job_course.specs.declared.part.Part.TheVariants.{Acting}
+use Rattle.job_course.specs.Running.{Running}
 use Rattle.pef_core.specs.declared.item.Item.{Item}
 use Rattle.pef_core.specs.declared.item.Item.TheVariants.{Event, Command, Tick, Power, Open}
-use Rattle.pef_core.specs.declared.part.Part.TheVariants.{Acting}
 use Rattle.pef_core.specs.declared.summary.Summary.{Summary}
-use Rattle.pef_core.specs.Running.{Running}
 use Rattle.pef_core.specs.Shown.{job_id, summary, page, shown_page}
 
 -- Settings with 16 octets of GUID, and the agent address 10.0.0.2. PEF is enabled, the mask allows all actions, and the filter asks for a

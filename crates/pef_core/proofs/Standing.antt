@@ -10,27 +10,29 @@ use Rattle.pef_config.proofs.Powered.{value_powered}
 use Rattle.pef_config.specs.Places.{Write, our_sizes, value, last_or, written}
 use Rattle.pef_match.specs.AtOnce.{at_once}
 use Rattle.pef_match.specs.declared.target.Target.{Target}
+use Rattle.job_course.specs.declared.counts.Counts.{Counts}
+use Rattle.job_course.specs.declared.counts.Counts.TheVariants.{Second, Ack, Heard}
+use Rattle.job_course.specs.declared.part.Part.TheVariants.{Alerting}
+use Rattle.job_course.specs.declared.turn.Turn.{Turn}
+use Rattle.job_course.specs.declared.turn.Turn.TheVariants.{ToAct, ToAlert, ToCall}
+use Rattle.job_course.specs.declared.work.Work.{Work}
+use Rattle.job_course.specs.Counting.{same_ack, one_acks, counted as counted_alert, all_seconds}
+use Rattle.job_course.specs.Undertaking.{Undertaking, Stage, InSet, Cut, first_stage, is_running, turn_in, turn_at, stage_after, sequence_behind, alert_at, target_at, result_of, one_if_alert, ended_or, joined, cut_of, turn_of, alerts_open, drawn_with}
+use Rattle.job_course.specs.Running.{Running}
+use Rattle.job_course.specs.Turns.{turn_behind, first_turn}
+use Rattle.job_course.specs.Progress.{attempt_after, part_after, result_after, part_begun, progress_by}
+use Rattle.job_course.proofs.TurnOrder.{set_begins, turn_continues}
 use Rattle.pef_core.specs.Settings.{initial_of}
 use Rattle.pet_body.specs.declared.ack.PetAck.{PetAck}
 use Rattle.pef_engine.specs.declared.entry.Entry.{Entry}
-use Rattle.pef_core.specs.declared.counts.Counts.{Counts}
-use Rattle.pef_core.specs.declared.counts.Counts.TheVariants.{Second, Ack, Heard}
 use Rattle.pef_core.specs.declared.item.Item.{Item}
-use Rattle.pef_core.specs.declared.part.Part.TheVariants.{Alerting}
 use Rattle.pef_core.specs.declared.postpone.Postpone.{Postpone}
 use Rattle.pef_core.specs.declared.postpone.Postpone.TheVariants.{Disabled, Seconds}
-use Rattle.pef_core.specs.declared.turn.Turn.{Turn}
-use Rattle.pef_core.specs.declared.turn.Turn.TheVariants.{ToAct, ToAlert, ToCall}
-use Rattle.pef_core.specs.declared.work.Work.{Work}
-use Rattle.pef_core.specs.Counting.{same_ack, one_acks, counted as counted_alert, all_seconds}
 use Rattle.pef_core.specs.Past.{Effect, Unchanged, SetPef, SetLan, Acked, Armed, Marked, SoftwareMarked, Cleared, Sends, StatusCleared, Deed, Logged, Dropped, Replied, Framed, Passed, Ticked, Powered, WasTold, ReplySent, effect_of, log, pef, pef_written, pef_writes, lan_written, lan_writes, lan_tables, ticks, delay_by, delay_set, seconds_on, delay, armed_in, set_or, timer_set, seconds_armed, less_by, postpone, counts_of}
-use Rattle.pef_core.specs.Undertaking.{Undertaking, Stage, InSet, Cut, first_stage, is_running, turn_in, turn_at, stage_after, sequence_behind, alert_at, target_at, result_of, one_if_alert, ended_or, joined, cut_of, turn_of, alerts_open, drawn_with}
-use Rattle.pef_core.specs.Running.{Running}
 use Rattle.pef_core.specs.Course.{Course, Force, drawn_by, begun as begun_for, begun_at_once, is_busy, mark_behind, status_behind, gone_on, counted_by, counted, with_effect, moved, begin_jobs, next_job, course}
 use Rattle.pef_core.specs.Values.{Now, Values, stamp_at, alert_in, part_in, work_in, running_at, running, now_of, values, force_of}
 use Rattle.pef_core.specs.Deeds.{deed, past_behind, past_of, standing}
-use Rattle.pef_core.specs.After.{pef_behind, lan_behind, pef_after, lan_after, ticks_after, delay_after, postpone_after, attempt_after, part_after, result_after, turn_behind, first_turn, part_begun, following, sequence_after, begins, progress_by, now_with, counted_now, moved_by, now_with_effect, work_of, begin_with, begin_jobs_now, begun, with_deed, may_begin_now, with_next_job, values_after}
-use Rattle.pef_core.proofs.TurnOrder.{set_begins, turn_continues}
+use Rattle.pef_core.specs.After.{pef_behind, lan_behind, pef_after, lan_after, ticks_after, delay_after, postpone_after, following, sequence_after, begins, now_with, counted_now, moved_by, now_with_effect, work_of, begin_with, begin_jobs_now, begun, with_deed, may_begin_now, with_next_job, values_after}
 
 past_behind-append : (Z : List ℕ) (past : List Deed) (H : List (Entry Item)) (entry : Entry Item)
     → past_behind Z past (H ++ entry ∷ []) ≡ deed (values Z (past_behind Z past H)) entry ∷ past_behind Z past H

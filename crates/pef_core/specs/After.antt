@@ -1,35 +1,24 @@
 -- What stands after one more deed, by what stood before it: the controller goes on by these. That they agree with the past is proved
 -- (`standing_next`).
-use Rattle.std.specs.Prelude.{ℕ, ◌+◌, ◌-◌, ◌%◌, Bool, not, ◌&&◌, nat_lt, ◌==◌, List, [], ◌∷◌, length, drop, ⊤, Option, Some, None, IfSome, is_some, if◌then◌else◌}
-use Rattle.lan_dest.specs.Attempts.{Counted, verdict, begun as begun_attempt, heard, answered, is_done}
-use Rattle.lan_dest.specs.declared.destination.Destination.{Destination}
+use Rattle.std.specs.Prelude.{ℕ, ◌+◌, ◌-◌, ◌%◌, Bool, not, ◌&&◌, ◌==◌, List, [], ◌∷◌, drop, Option, Some, None, is_some, if◌then◌else◌}
 use Rattle.lan_dest.specs.Parameters as lan
-use Rattle.alert_trap.specs.Acknowledgement.{ack_awaited}
-use Rattle.pet_body.specs.declared.ack.PetAck.{PetAck}
-use Rattle.policy_walk.specs.First.{first_tried}
-use Rattle.policy_walk.specs.Tried.{Any}
 use Rattle.pef_config.specs.Places.{Write, Tables, our_sizes, last_or, written, powered}
 use Rattle.pef_match.specs.declared.target.Target.{Target}
 use Rattle.pef_match.specs.AtOnce.{at_once}
-use Rattle.pef_match.specs.Parts.{Parts}
 use Rattle.pef_match.specs.Job.{job}
-use Rattle.pef_core.specs.declared.counts.Counts.{Counts}
-use Rattle.pef_core.specs.declared.counts.Counts.TheVariants.{Second, Ack, Heard}
-use Rattle.pef_core.specs.declared.part.Alerting.{Alerting as Alert}
-use Rattle.pef_core.specs.declared.part.Part.{Part}
-use Rattle.pef_core.specs.declared.part.Part.TheVariants.{Acting, Alerting, Calling}
+use Rattle.job_course.specs.declared.counts.Counts.{Counts}
+use Rattle.job_course.specs.declared.progress.Progress.{Progress}
+use Rattle.job_course.specs.declared.progress.Progress.TheVariants.{GoesOn, Ended}
+use Rattle.job_course.specs.declared.turn.Turn.{Turn}
+use Rattle.job_course.specs.declared.turn.Turn.TheVariants.{ToAlert}
+use Rattle.job_course.specs.declared.work.Work.{Work}
+use Rattle.job_course.specs.Running.{Running}
+use Rattle.job_course.specs.Turns.{first_turn}
+use Rattle.job_course.specs.Progress.{part_begun, progress}
 use Rattle.pef_core.specs.declared.postpone.Postpone.{Postpone}
 use Rattle.pef_core.specs.declared.postpone.Postpone.TheVariants.{Seconds}
-use Rattle.pef_core.specs.declared.progress.Progress.{Progress}
-use Rattle.pef_core.specs.declared.progress.Progress.TheVariants.{GoesOn, Ended}
-use Rattle.pef_core.specs.declared.turn.Turn.{Turn}
-use Rattle.pef_core.specs.declared.turn.Turn.TheVariants.{ToAct, ToAlert, ToCall}
-use Rattle.pef_core.specs.declared.work.Work.{Work}
-use Rattle.pef_core.specs.Counting.{same_ack}
 use Rattle.pef_core.specs.Past.{Effect, Marked, Cleared, Sends, StatusCleared, Deed, Ticked, Powered, effect_of, records_with, pef_written, lan_written, delay_by, armed_in, set_or, less_by, software_with, note_with, reply_with, replies_with, counts_of}
-use Rattle.pef_core.specs.Undertaking.{set_at, stops_at, target_at, first_stage, turn_in, turn_at}
 use Rattle.pef_core.specs.Course.{Force, guid_by, mark_behind, status_behind, number_of, may_begin}
-use Rattle.pef_core.specs.Running.{Running, IsTurn}
 use Rattle.pef_core.specs.Values.{Now, Values, stamp_at, force_of}
 
 -- what these writes put at each place, and elsewhere what was there
@@ -63,55 +52,6 @@ postpone_after Ticked timer = less_by 1 timer
 postpone_after Powered timer = Seconds 0
 postpone_after deed timer = set_or timer (armed_in (effect_of deed))
 
--- one second more for an alert, whose seconds count from its first outcome on; an acknowledgement; an outcome
-abbrev pub attempt_after : Counts → PetAck → Counted → Counted
-attempt_after Second wanted attempt = record attempt { ticks = if attempt.outcomes == 0 then 0 else attempt.ticks + 1 }
-attempt_after (Ack ack) wanted attempt = if same_ack ack wanted then answered attempt else attempt
-attempt_after (Heard told) wanted attempt = heard told attempt
-
-abbrev pub alert_after : Counts → Option (List ℕ) → Alert → Alert
-alert_after counts event alert = record alert { attempt = attempt_after counts (ack_awaited alert.sequence event) alert.attempt }
-
-abbrev pub outcome_of : Counts → Option Bool
-outcome_of (Heard told) = Some (is_done told)
-outcome_of counts = None
-
--- the part that is open with what counts now, and how it ends then
-abbrev pub part_after : Counts → Option (List ℕ) → Part → Part
-part_after counts event (Alerting alert) = Alerting (alert_after counts event alert)
-part_after counts event part = part
-
-abbrev pub result_after : Counts → Option (List ℕ) → Part → Option Bool
-result_after counts event (Alerting alert) = verdict (alert_after counts event alert).attempt
-result_after counts event part = outcome_of counts
-
--- the turn behind a part of a job: of an alert the next of its set, or the first of the next set, or the OEM action
-abbrev pub turn_from : Parts → ℕ → Option Turn
-turn_from job first = if nat_lt first (length job.targets) then Some (ToAlert first 0) else turn_in job first None
-
-abbrev pub turn_or_next : Parts → ℕ → Option ℕ → Option Turn
-turn_or_next job first (Some place) = Some (ToAlert first place)
-turn_or_next job first None = turn_from job (first + length (set_at job.targets first))
-
-abbrev pub turn_behind : Parts → Part → Bool → Option Turn
-turn_behind job (Acting act) result = turn_from job 0
-turn_behind job (Alerting alert) result =
-    turn_or_next job alert.first (first_tried Any result (alert.place + 1) (drop (alert.place + 1) (stops_at job.targets alert.first)))
-turn_behind job Calling result = None
-
-abbrev pub first_turn : Parts → Option Turn
-first_turn job = turn_at job (first_stage job.act)
-
--- the part that begins, with this sequence number and time-stamp where it is an alert
-abbrev pub attempt_of : Destination → Counted
-attempt_of to = begun_attempt to.acknowledged to.wait to.retries
-
-abbrev pub part_begun : Parts → ℕ → ℕ → Turn → Part
-part_begun job sequence stamp (ToAct act) = Acting act
-part_begun job sequence stamp (ToAlert first place) =
-    Alerting (record { first = first; place = place; sequence = sequence; stamp = stamp; attempt = attempt_of (target_at job.targets first place).to })
-part_begun job sequence stamp ToCall = Calling
-
 -- 65535 is followed by 1
 abbrev pub following : ℕ → ℕ
 following sequence = if sequence == 65535 then 1 else sequence + 1
@@ -127,19 +67,6 @@ begins work stamp (Some turn) last n = record n {
   running = Some (record { work = work; part = part_begun work.job n.sequence stamp turn });
   sequence = sequence_after turn n.sequence;
 }
-
--- a part with a result is over
-abbrev pub progress_by : Counts → Running → Option Bool → Progress
-progress_by counts r None = GoesOn (record r { part = part_after counts r.work.job.event r.part })
-progress_by counts r (Some result) = Ended r.work (turn_behind r.work.job r.part result) result
-
-abbrev pub progress : Counts → Running → Progress
-progress counts r = progress_by counts r (result_after counts r.work.job.event r.part)
-
--- a turn that comes is one that can
-abbrev pub IsProgress : Progress → Type 0
-IsProgress (GoesOn r) = ⊤
-IsProgress (Ended work turn result) = IfSome turn (λ turn. IsTurn work.job.targets turn)
 
 abbrev pub now_with : ℕ → Progress → Now → Now
 now_with stamp (GoesOn r) n = record n { running = Some r }

@@ -10,13 +10,13 @@ use Rattle.pef_config.specs.Places.{Tables, Control, our_sizes, guid_in}
 use Rattle.pef_match.specs.AtOnce.{at_once}
 use Rattle.pef_match.specs.Job.{job}
 use Rattle.pef_match.specs.declared.target.Target.{Target}
-use Rattle.pef_core.specs.declared.counts.Counts.{Counts}
-use Rattle.pef_core.specs.declared.own.Own.{Own}
+use Rattle.job_course.specs.declared.counts.Counts.{Counts}
+use Rattle.job_course.specs.declared.own.Own.{Own}
+use Rattle.job_course.specs.Undertaking.{Undertaking, is_running, cut_of, drawn_with}
 use Rattle.pef_core.specs.declared.postpone.Postpone.{Postpone}
 use Rattle.pef_core.specs.declared.postpone.Postpone.TheVariants.{Disabled, Seconds}
 use Rattle.pef_core.specs.Settings.{own_of}
 use Rattle.pef_core.specs.Past.{Effect, Marked, Cleared, Sends, StatusCleared, Deed, effect_of, log, pef, lan_tables, delay, postpone, counts_of}
-use Rattle.pef_core.specs.Undertaking.{Undertaking, is_running, cut_of, drawn_with}
 
 -- the undertakings, the latest first; and the status of Alert Immediate: 00h none, 01h ended with success, 03h failed, FFh pending
 -- (IPMI 2.0, section 30.7)

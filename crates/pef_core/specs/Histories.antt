@@ -1,14 +1,8 @@
 -- What the histories of a controller mean.
-use Rattle.std.specs.Prelude.{◌≡◌, ⊤, ℕ, ◌<◌, ◌≤◌, ◌^◌, Bool, false, nat_lt, List, [], ◌∷◌, ◌++◌, length, Option, Some, None, if◌then◌else◌}
+use Rattle.std.specs.Prelude.{◌≡◌, ⊤, ℕ, ◌<◌, ◌≤◌, ◌^◌, false, List, [], ◌∷◌, ◌++◌, length, Option, Some, None}
 use Rattle.std.specs.Int.{to_le_bytes, w16}
-use Rattle.board_core.specs.declared.step.Act.TheVariants.{Oem}
 use Rattle.board_core.specs.declared.step.Step.{Step}
-use Rattle.board_core.specs.declared.step.Step.TheVariants.{Act, Datagram}
-use Rattle.event_record.specs.Fields.{record_id}
-use Rattle.alert_trap.specs.Trap.{trap_octets}
-use Rattle.lan_dest.specs.Attempts.{Counted, sends}
 use Rattle.pef_commands.specs.Request.{Asked}
-use Rattle.pef_match.specs.declared.target.Target.{Target}
 use Rattle.pef_settings.specs.Settings.{controller}
 use Rattle.pef_engine.specs.declared.entry.Entry.{Entry}
 use Rattle.pef_engine.specs.declared.entry.Entry.TheVariants.{Item as Taken, Outcome}
@@ -16,40 +10,16 @@ use Rattle.pef_engine.specs.declared.marks.Mark.TheVariants.{Open as Opened, Clo
 use Rattle.pef_engine.specs.Marks.{mark_octets}
 use Rattle.pef_engine.specs.Rules.{Rules}
 use Rattle.pef_engine.specs.Scripts.{MayCome, script_of}
+use Rattle.job_course.specs.declared.own.Own.{Own}
+use Rattle.job_course.specs.Running.{Running}
+use Rattle.job_course.specs.Steps.{part_step}
 use Rattle.pef_core.specs.declared.item.Item.{Item}
 use Rattle.pef_core.specs.declared.item.Item.TheVariants.{Event, Command, Frame, Tick, Power, Open, Close}
-use Rattle.pef_core.specs.declared.own.Own.{Own}
-use Rattle.pef_core.specs.declared.part.Alerting.{Alerting as Alert}
-use Rattle.pef_core.specs.declared.part.Part.{Part}
-use Rattle.pef_core.specs.declared.part.Part.TheVariants.{Acting, Alerting, Calling}
-use Rattle.pef_core.specs.declared.work.Work.{Work}
-use Rattle.pef_core.specs.Undertaking.{target_at}
-use Rattle.pef_core.specs.Running.{Running}
 use Rattle.pef_core.specs.Values.{Values}
 use Rattle.pef_core.specs.Deeds.{standing}
 use Rattle.pef_core.specs.Report.{step_in, controller_scripts}
 
--- a transmission is due
-abbrev pub is_due : Counted → Bool
-is_due attempt = nat_lt attempt.outcomes (sends attempt.wait attempt.retries attempt.ticks)
-
--- the datagram of an alert: the trap of its target, with the sequence number and the time-stamp that it drew
-abbrev pub trap_step : Own → Work → Alert → Target → Step
-trap_step own work alert target = Datagram target.to.to
-    (trap_octets own.origin (record { guid = work.guid; sequence = alert.sequence; stamp = alert.stamp }) work.job.event target.severity target.text target.to.community)
-
--- the record that an action is for; an alert at once has none, and no action
-abbrev pub id_of : Option (List ℕ) → ℕ
-id_of None = 0x0000
-id_of (Some event) = record_id event
-
--- the step of a part that is open
-abbrev pub part_step : Own → Work → Part → Option Step
-part_step own work (Acting act) = Some (Act act (id_of work.job.event))
-part_step own work (Alerting alert) =
-    if is_due alert.attempt then Some (trap_step own work alert (target_at work.job.targets alert.first alert.place)) else None
-part_step own work Calling = Some (Act Oem (id_of work.job.event))
-
+-- the step of what runs
 abbrev pub running_step : Own → Option Running → Option Step
 running_step own None = None
 running_step own (Some r) = part_step own r.work r.part

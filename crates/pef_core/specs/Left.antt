@@ -4,14 +4,14 @@
 use Rattle.std.specs.Prelude.{ℕ, ◌+◌, ◌-◌, ◌*◌, length, Option, Some, None, if◌then◌else◌}
 use Rattle.lan_dest.specs.Attempts.{sends}
 use Rattle.pef_match.specs.Parts.{Parts}
-use Rattle.pef_core.specs.declared.part.Part.{Part}
-use Rattle.pef_core.specs.declared.part.Part.TheVariants.{Acting, Alerting, Calling}
-use Rattle.pef_core.specs.declared.progress.Progress.{Progress}
-use Rattle.pef_core.specs.declared.progress.Progress.TheVariants.{GoesOn, Ended}
-use Rattle.pef_core.specs.declared.turn.Turn.{Turn}
-use Rattle.pef_core.specs.declared.turn.Turn.TheVariants.{ToAct, ToAlert, ToCall}
+use Rattle.job_course.specs.declared.part.Part.{Part}
+use Rattle.job_course.specs.declared.part.Part.TheVariants.{Acting, Alerting, Calling}
+use Rattle.job_course.specs.declared.progress.Progress.{Progress}
+use Rattle.job_course.specs.declared.progress.Progress.TheVariants.{GoesOn, Ended}
+use Rattle.job_course.specs.declared.turn.Turn.{Turn}
+use Rattle.job_course.specs.declared.turn.Turn.TheVariants.{ToAct, ToAlert, ToCall}
+use Rattle.job_course.specs.Running.{Running}
 use Rattle.pef_core.specs.Course.{mark_behind}
-use Rattle.pef_core.specs.Running.{Running}
 use Rattle.pef_core.specs.Values.{Values}
 
 abbrev pub oem_left : Parts → ℕ

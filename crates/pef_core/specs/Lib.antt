@@ -1,8 +1,5 @@
 pub mod Settings
 pub mod Past
-pub mod Counting
-pub mod Undertaking
-pub mod Running
 pub mod Course
 pub mod Values
 pub mod Replies

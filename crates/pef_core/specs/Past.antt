@@ -9,9 +9,9 @@ use Rattle.lan_dest.specs.Parameters as lan
 use Rattle.pef_config.specs.Places.{Write, Tables, Control, Delay, our_sizes, value, power_writes}
 use Rattle.pef_match.specs.declared.target.Target.{Target}
 use Rattle.pet_body.specs.declared.ack.PetAck.{PetAck}
+use Rattle.job_course.specs.declared.counts.Counts.{Counts}
+use Rattle.job_course.specs.declared.counts.Counts.TheVariants.{Second, Ack, Heard}
 use Rattle.pef_core.specs.Settings.{initial_of}
-use Rattle.pef_core.specs.declared.counts.Counts.{Counts}
-use Rattle.pef_core.specs.declared.counts.Counts.TheVariants.{Second, Ack, Heard}
 use Rattle.pef_core.specs.declared.note.Note.{Note}
 use Rattle.pef_core.specs.declared.note.Note.TheVariants.{Added, Nothing}
 use Rattle.pef_core.specs.declared.postpone.Postpone.{Postpone}

@@ -2,6 +2,13 @@
 use Rattle.std.specs.Prelude.{◌≡◌, ◌⊎◌, ⊤, ℕ, zero, suc, ◌+◌, Bool, true, false, List, [], ◌∷◌, ◌++◌, length, Option, Some, None, if◌then◌else◌}
 use Rattle.pef_config.specs.Places.{our_sizes}
 use Rattle.pef_match.specs.Job.{job}
+use Rattle.job_course.specs.declared.counts.Counts.{Counts}
+use Rattle.job_course.specs.declared.counts.Counts.TheVariants.{Heard}
+use Rattle.job_course.specs.declared.own.Own.{Own}
+use Rattle.job_course.specs.declared.turn.Turn.TheVariants.{ToAlert}
+use Rattle.job_course.specs.Counting.{all_seconds}
+use Rattle.job_course.specs.Steps.{trap_step}
+use Rattle.job_course.specs.Undertaking.{Undertaking, target_at, is_running, cut_of, turn_of}
 use Rattle.pef_core.specs.Settings.{ports_of}
 use Rattle.pef_engine.specs.declared.entry.Entry.{Entry}
 use Rattle.pef_match.specs.AtOnce.{at_once}
@@ -11,14 +18,7 @@ use Rattle.pef_core.specs.Past.{Effect, Marked, Cleared, Sends, Deed, Replied, e
 use Rattle.pef_core.specs.Deeds.{deed}
 use Rattle.board_core.specs.declared.step.Told.{Told}
 use Rattle.board_core.specs.declared.step.Step.{Step}
-use Rattle.pef_core.specs.declared.counts.Counts.{Counts}
-use Rattle.pef_core.specs.declared.counts.Counts.TheVariants.{Heard}
-use Rattle.pef_core.specs.declared.own.Own.{Own}
-use Rattle.pef_core.specs.declared.turn.Turn.TheVariants.{ToAlert}
-use Rattle.pef_core.specs.Counting.{all_seconds}
-use Rattle.pef_core.specs.Histories.{trap_step}
 use Rattle.pef_core.specs.Values.{values, alert_in, work_in}
-use Rattle.pef_core.specs.Undertaking.{Undertaking, target_at, is_running, cut_of, turn_of}
 use Rattle.pef_core.specs.Course.{Course, force, guid_by, mark_behind}
 
 -- the numbers of the records of these undertakings, the latest first; an alert at once has none

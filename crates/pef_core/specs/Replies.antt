@@ -14,11 +14,11 @@ use Rattle.pef_config.specs.Places.{our_sizes, write}
 use Rattle.pef_config.specs.Rows.{answer_if, set_code, get_reply}
 use Rattle.pef_match.specs.declared.target.Target.{Target}
 use Rattle.pef_match.specs.AtOnce.{target_at_once}
+use Rattle.job_course.specs.Running.{Running}
 use Rattle.pef_core.specs.declared.postpone.Postpone.{Postpone}
 use Rattle.pef_core.specs.declared.postpone.Postpone.TheVariants.{Disabled, Seconds}
 use Rattle.pef_core.specs.Past.{Effect, Unchanged, SetPef, SetLan, Acked, Armed, Marked, SoftwareMarked, Cleared, Sends, StatusCleared}
 use Rattle.pef_core.specs.Course.{guid_by}
-use Rattle.pef_core.specs.Running.{Running}
 use Rattle.pef_core.specs.Values.{Values, force_of}
 
 pub record Answer : Type 0 where

@@ -6,7 +6,7 @@ use Rattle.event_record.specs.Fields.{octet}
 use Rattle.alert_trap.specs.declared.origin.Origin.{Origin}
 use Rattle.lan_dest.specs.declared.destination.Ports.{Ports}
 use Rattle.pef_config.specs.declared.initial.Initial.{Initial}
-use Rattle.pef_core.specs.declared.own.Own.{Own}
+use Rattle.job_course.specs.declared.own.Own.{Own}
 
 -- control, actions, startup delay, filter 1
 abbrev pub initial_of : List ℕ → Initial

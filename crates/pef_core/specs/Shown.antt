@@ -7,13 +7,14 @@ use Rattle.pef_engine.specs.declared.entry.Entry.{Entry}
 use Rattle.pef_engine.specs.declared.script.Script.{Script}
 use Rattle.pef_engine.specs.Scripts.{script_of}
 use Rattle.report_line.specs.Line.{line_end}
+use Rattle.job_course.specs.Steps.{id_of}
+use Rattle.job_course.specs.Running.{Running}
 use Rattle.pef_core.specs.declared.item.Item.{Item}
 use Rattle.pef_core.specs.declared.summary.Summary.{Summary}
 use Rattle.pef_core.specs.Deeds.{standing}
-use Rattle.pef_core.specs.Histories.{id_of, pending}
+use Rattle.pef_core.specs.Histories.{pending}
 use Rattle.pef_core.specs.Replies.{id_or, processed, timer_octet}
 use Rattle.pef_core.specs.Report.{id_digits, controller_scripts}
-use Rattle.pef_core.specs.Running.{Running}
 use Rattle.pef_core.specs.Values.{Values}
 
 -- the ID of the record whose job runs; an alert at once is the job of none

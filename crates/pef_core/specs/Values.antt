@@ -3,21 +3,21 @@ use Rattle.std.specs.Prelude.{ℕ, ◌+◌, ◌-◌, ◌*◌, ◌%◌, List, [],
 use Rattle.board_core.specs.declared.step.Step.{Step}
 use Rattle.lan_dest.specs.Parameters as lan
 use Rattle.pef_config.specs.Places.{Tables}
+use Rattle.job_course.specs.declared.own.Own.{Own}
+use Rattle.job_course.specs.declared.part.Alerting.{Alerting as Alert}
+use Rattle.job_course.specs.declared.part.Part.{Part}
+use Rattle.job_course.specs.declared.part.Part.TheVariants.{Acting, Alerting, Calling}
+use Rattle.job_course.specs.declared.turn.Turn.{Turn}
+use Rattle.job_course.specs.declared.turn.Turn.TheVariants.{ToAct, ToAlert, ToCall}
+use Rattle.job_course.specs.declared.work.Work.{Work}
+use Rattle.job_course.specs.Counting.{all_seconds}
+use Rattle.job_course.specs.Undertaking.{Undertaking, Cut, cut_of, turn_of, alert_at, sequence_behind}
+use Rattle.job_course.specs.Running.{Running}
 use Rattle.pef_core.specs.declared.note.Note.{Note}
-use Rattle.pef_core.specs.declared.own.Own.{Own}
-use Rattle.pef_core.specs.declared.part.Alerting.{Alerting as Alert}
-use Rattle.pef_core.specs.declared.part.Part.{Part}
-use Rattle.pef_core.specs.declared.part.Part.TheVariants.{Acting, Alerting, Calling}
 use Rattle.pef_core.specs.declared.postpone.Postpone.{Postpone}
-use Rattle.pef_core.specs.declared.turn.Turn.{Turn}
-use Rattle.pef_core.specs.declared.turn.Turn.TheVariants.{ToAct, ToAlert, ToCall}
-use Rattle.pef_core.specs.declared.work.Work.{Work}
-use Rattle.pef_core.specs.Counting.{all_seconds}
 use Rattle.pef_core.specs.Settings.{own_of}
 use Rattle.pef_core.specs.Past.{Deed, log, pef, lan_tables, ticks, delay, postpone, software, note, reply, replies}
-use Rattle.pef_core.specs.Undertaking.{Undertaking, Cut, cut_of, turn_of, alert_at, sequence_behind}
 use Rattle.pef_core.specs.Course.{Course, Force, drawn_by, course}
-use Rattle.pef_core.specs.Running.{Running}
 
 -- where the course stands: the job that runs with its open part, the mark, the sequence number that the next alert draws, and the status of
 -- Alert Immediate

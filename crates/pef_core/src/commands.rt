@@ -3,15 +3,13 @@ ghost use Rattle.std.specs.Prelude.{◌≡◌, ◌==◌, if◌then◌else◌};
 ghost use Rattle.pef_core.specs.Replies.{armed_by, is_no_string as is_no_string_of};
 
 use crate::controller::Controller;
-use crate::counts::Counts;
 use crate::item::Item;
 use crate::note::Note;
 use crate::postpone::Postpone;
 use crate::replying::{capabilities, cleared, code_alone, done_with, last_processed, timer_octet};
-use crate::turn::Turn;
-use crate::work::Work;
 use board_core::Octets;
 use event_record::Record;
+use job_course::{Counts, Turn, Work};
 use pef_commands::{Command, Request, parse};
 use pef_match::{Job, Target, target_at_once};
 use pet_body::PetAck;

@@ -5,20 +5,14 @@ ghost use Rattle.pef_core.specs.After.{following};
 ghost use Rattle.pef_core.specs.Course.{is_over as is_over_of, status_by as status_by_of};
 ghost use Rattle.pef_core.specs.Past.{delay_by, less_by};
 
-use crate::counts::Counts;
 use crate::events::add_event;
 use crate::item::{Item, step_in};
 use crate::note::Note;
-use crate::own::Own;
 use crate::postpone::Postpone;
-use crate::progress::Progress;
-use crate::running::Running;
-use crate::turn::Turn;
-use crate::turns::first_turn;
-use crate::work::Work;
 use board_core::{Address, Octets, Step, Told};
-use event_record::Log;
+use event_record::{Log, Record};
 use frame_answers::{Replies, answered};
+use job_course::{Counts, Own, Progress, Running, Turn, Work, first_turn};
 use lan_dest::Lan;
 use pef_config::{Config, Initial};
 use pef_engine::{Entry, Script, script_behind};
@@ -55,14 +49,14 @@ pub struct Controller {
 }
 
 impl Controller {
-    ghost use Rattle.std.specs.Prelude.{◌≡◌, ◌<◌, ◌≤◌, ◌+◌, ◌-◌, ◌*◌, ℕ, [], ◌∷◌, List, Some, None, IfOk, IsSome, IfSome, length, option_copied, option_map, slice_get};
+    ghost use Rattle.std.specs.Prelude.{◌≡◌, ◌<◌, ◌≤◌, ◌+◌, ◌-◌, ◌*◌, ℕ, [], ◌∷◌, List, Some, None, IfOk, IsSome, IfSome, length, option_copied, slice_get};
     ghost use Rattle.pef_config.specs.Kept.{tables};
     ghost use Rattle.pef_engine.specs.Scripts.{MayCome, script_with, script_from};
+    ghost use Rattle.job_course.specs.Running.{IsTurn, MayCountNow};
     ghost use Rattle.pef_core.specs.Settings.{initial_of, own_of};
     ghost use Rattle.pef_core.specs.Deeds.{item_deed, told_deed, deed, standing};
     ghost use Rattle.pef_core.specs.After.{with_deed, with_next_job, begun, begins, counted_now, work_of};
     ghost use Rattle.pef_core.specs.Past.{Ticked, Powered, WasTold};
-    ghost use Rattle.pef_core.specs.Running.{IsTurn, MayCountNow};
     ghost use Rattle.pef_core.specs.Left.{left};
     ghost use Rattle.pef_engine.specs.Rules.{IsOutcome, Lawful};
     ghost use Rattle.pef_core.specs.Histories.{controller_rules};
@@ -290,7 +284,9 @@ impl Controller {
         ensures values { shown self.new ≡ with_next_job (shown self.old) }
         ensures script { self.new.script ≡ self.old.script }
     {
-        if self.running.is_none() && self.may_begin() {
+        // Tested before `begin_jobs` is entered, which makes room for a whole job: most entries of a long history find no record waiting.
+        let waits = self.mark < self.log.len();
+        if waits && self.running.is_none() && self.may_begin() {
             self.begin_jobs();
         }
     }
@@ -308,18 +304,26 @@ impl Controller {
         self.config.control() % 2 == 1
     }
 
-    // What is to be begun for the record behind the mark, and none where all are processed.
-    fn waiting(&self) -> Option<Work>
-        ensures work { result ≡ option_map (work_of (force_of (shown self.now)) (self.now.mark + 1)) (slice_get self.now.log self.now.mark) }
+    // The record behind the mark, and none where all are processed.
+    fn waiting(&self) -> Option<Record>
+        ensures event { result ≡ slice_get self.now.log self.now.mark }
         ensures within { IsSome result → self.now.mark < 1024 }
     {
         let event = self.log.get(self.mark)?;
         prove!(self.mark < self.log.len());
-        Some(Work {
+        Some(*event)
+    }
+
+    // What is to be begun for this record, which stands behind the mark.
+    fn work_for(&self, event: &Record) -> Work
+        requires { self.now.mark < 1024 }
+        ensures { result ≡ work_of (force_of (shown self.now)) (self.now.mark + 1) event.now }
+    {
+        Work {
             number: Some(self.mark + 1),
             job: job_of(&self.config, &self.lan, &self.own.ports, event),
             guid: self.guid(),
-        })
+        }
     }
 
     /// The system GUID in force.
@@ -348,7 +352,8 @@ impl Controller {
         ensures values { shown self.new ≡ begun (shown self.old) }
         ensures script { self.new.script ≡ self.old.script }
     {
-        'records: while let Some(work) = self.waiting() {
+        'records: while let Some(event) = self.waiting() {
+            let work = self.work_for(&event);
             let turn = first_turn(&work.job);
             if turn.is_some() {
                 self.begin(work, turn, None);

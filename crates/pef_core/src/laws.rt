@@ -2,17 +2,15 @@
 ghost use Rattle.std.specs.Prelude.{◌≡◌, ◌≤◌, ◌%◌, ◌∷◌, ◌++◌, ℕ, List, length, true, false, Some, None};
 ghost use Rattle.board_core.specs.declared.step.Act.{Act};
 ghost use Rattle.board_core.specs.declared.step.Told.{Told};
+ghost use Rattle.job_course.specs.Counting.{outcomes};
+ghost use Rattle.job_course.specs.Undertaking.{Undertaking, cut_of, turn_of, sequence_behind};
 ghost use Rattle.pef_core.specs.Past.{Deed, log, pef, delay, postpone};
 ghost use Rattle.pef_core.specs.Deeds.{past_of};
-ghost use Rattle.pef_core.specs.Counting.{outcomes};
-ghost use Rattle.pef_core.specs.Undertaking.{Undertaking, cut_of, turn_of, sequence_behind};
 ghost use Rattle.pef_core.specs.Course.{is_busy, may_begin, moved, course};
 ghost use Rattle.pef_core.specs.Promises.{GoesInOrder, NoneMoves, AllBegan, IsSent, heard_by, with_later};
 
-use crate::counts::Counts;
 use crate::item::Item;
-use crate::own::Own;
-use crate::turn::Turn;
+use job_course::{Counts, Own, Turn};
 use pef_engine::Entry;
 
 /// As long as no command moves the mark, records are processed in their order from the mark on, and none is skipped.

@@ -4,26 +4,18 @@
 mod arriving;
 mod commands;
 mod controller;
-mod counts;
 mod entries;
 mod events;
 mod item;
 mod laws;
 mod machine;
 mod note;
-mod own;
-mod part;
 mod postpone;
-mod progress;
 mod replying;
 mod report;
-mod running;
 mod settings;
 mod showing;
 mod summary;
-mod turn;
-mod turns;
-mod work;
 
 pub use controller::Controller;
 pub use item::Item;

@@ -2,8 +2,8 @@
 ghost use Rattle.std.specs.Prelude.{◌≡◌, ◌+◌, ◌≤◌, length, take, drop};
 ghost use Rattle.pef_core.specs.Settings.{own_of as own_in, two, four};
 
-use crate::own::Own;
 use alert_trap::Origin;
+use job_course::Own;
 use lan_dest::Ports;
 use pef_settings::{AGENT, MANUFACTURER, OEM1_PORT, OEM2_PORT, PET_PORT, SYSTEM};
 

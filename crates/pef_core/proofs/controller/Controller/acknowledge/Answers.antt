@@ -1,5 +1,5 @@
 use Rattle.std.proofs.Common.{◌∙◌, ap}
-use Rattle.pef_core.specs.declared.counts.Counts.TheVariants.{Ack}
+use Rattle.job_course.specs.declared.counts.Counts.TheVariants.{Ack}
 use Rattle.pef_core.specs.declared.controller.Controller.{Controller}
 use Rattle.pef_core.proofs.Deeds.{with_count}
 use Rattle.pef_core.proofs.controller.Controller.acknowledge.Goals as goal

@@ -1,7 +1,7 @@
 use Rattle.std.proofs.Common.{◌∙◌, ap, sym}
 use Rattle.frame_answers.specs.Answers.{answered}
+use Rattle.job_course.specs.declared.counts.Counts.TheVariants.{Ack}
 use Rattle.pef_core.specs.declared.controller.Controller.{Controller}
-use Rattle.pef_core.specs.declared.counts.Counts.TheVariants.{Ack}
 use Rattle.pef_core.specs.View.{shown}
 use Rattle.pef_core.proofs.Deeds.{framed, frames, with_count}
 use Rattle.pef_core.proofs.controller.Controller.frame.Goals as goal

@@ -1,8 +1,8 @@
 use Rattle.std.proofs.Common.{Some, None, sym, ◌∙◌, ap, subst}
+use Rattle.job_course.specs.declared.turn.Turn.TheVariants.{ToAlert}
+use Rattle.job_course.specs.declared.work.Work.{Work}
+use Rattle.job_course.specs.Running.{IsTurn}
 use Rattle.pef_core.specs.declared.controller.Controller.{Controller}
-use Rattle.pef_core.specs.declared.turn.Turn.TheVariants.{ToAlert}
-use Rattle.pef_core.specs.declared.work.Work.{Work}
-use Rattle.pef_core.specs.Running.{IsTurn}
 use Rattle.pef_core.specs.Course.{guid_by}
 use Rattle.pef_core.specs.Values.{stamp_at, force_of}
 use Rattle.pef_core.specs.After.{begins}

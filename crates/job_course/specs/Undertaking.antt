@@ -11,10 +11,10 @@ use Rattle.policy_walk.specs.declared.stop.Stop.{Stop}
 use Rattle.policy_walk.specs.Tried.{place_after}
 use Rattle.pef_match.specs.declared.target.Target.{Target}
 use Rattle.pef_match.specs.Parts.{Parts}
-use Rattle.pef_core.specs.declared.counts.Counts.{Counts}
-use Rattle.pef_core.specs.declared.turn.Turn.{Turn}
-use Rattle.pef_core.specs.declared.turn.Turn.TheVariants.{ToAct, ToAlert, ToCall}
-use Rattle.pef_core.specs.Counting.{counted, outcome_in}
+use Rattle.job_course.specs.declared.counts.Counts.{Counts}
+use Rattle.job_course.specs.declared.turn.Turn.{Turn}
+use Rattle.job_course.specs.declared.turn.Turn.TheVariants.{ToAct, ToAlert, ToCall}
+use Rattle.job_course.specs.Counting.{counted, outcome_in}
 
 -- The job of the record of this number in the log, counted from 1, and the GUID in force, as they were when it began; how many alerts the
 -- controller had begun before; and what counts since then, the latest first. An alert that is sent at once has no record, and so no number

@@ -4,8 +4,8 @@ use Rattle.std.specs.Prelude.{ℕ, ◌+◌, Bool, false, ◌&&◌, ◌||◌, ◌
 use Rattle.lan_dest.specs.Attempts.{Counted, is_done}
 use Rattle.lan_dest.specs.declared.destination.Destination.{Destination}
 use Rattle.pet_body.specs.declared.ack.PetAck.{PetAck}
-use Rattle.pef_core.specs.declared.counts.Counts.{Counts}
-use Rattle.pef_core.specs.declared.counts.Counts.TheVariants.{Second, Ack, Heard}
+use Rattle.job_course.specs.declared.counts.Counts.{Counts}
+use Rattle.job_course.specs.declared.counts.Counts.TheVariants.{Second, Ack, Heard}
 
 abbrev pub same_ack : PetAck → PetAck → Bool
 same_ack a b =

@@ -9,10 +9,10 @@ use Rattle.policy_walk.specs.Tried.{Any, passed, tried_from, place_after}
 use Rattle.policy_walk.proofs.Growing.{place_after-more}
 use Rattle.pef_match.specs.declared.target.Target.{Target}
 use Rattle.pef_match.specs.Parts.{Parts}
-use Rattle.pef_core.specs.declared.turn.Turn.{Turn}
-use Rattle.pef_core.specs.declared.turn.Turn.TheVariants.{ToAct, ToAlert, ToCall}
-use Rattle.pef_core.specs.Undertaking.{Stage, First, InSet, Finished, one_set, set_at, stops_at, turn_in, turn_at, behind_alert, stage_after}
-use Rattle.pef_core.specs.After.{turn_from, turn_or_next}
+use Rattle.job_course.specs.declared.turn.Turn.{Turn}
+use Rattle.job_course.specs.declared.turn.Turn.TheVariants.{ToAct, ToAlert, ToCall}
+use Rattle.job_course.specs.Undertaking.{Stage, First, InSet, Finished, one_set, set_at, stops_at, turn_in, turn_at, behind_alert, stage_after}
+use Rattle.job_course.specs.Turns.{turn_from, turn_or_next}
 
 pub eq_self : (n : ℕ) → eqb n n ≡ true
 eq_self n = by (eqb n n) refl

@@ -2,19 +2,19 @@
 ghost use Rattle.std.specs.Prelude.{◌≡◌, ◌+◌, ◌<◌, ◌≤◌, ◌==◌, length, drop, map, IfSome, All};
 ghost use Rattle.pef_match.specs.Parts.{CanBeSent};
 ghost use Rattle.std.specs.List.{prefix_len};
-ghost use Rattle.pef_core.specs.After.{first_turn as first_turn_of, turn_from as turn_from_of, turn_or_next};
+ghost use Rattle.job_course.specs.Turns.{first_turn as first_turn_of, turn_from as turn_from_of, turn_or_next};
 ghost use Rattle.policy_walk.specs.First.{first_tried};
 ghost use Rattle.policy_walk.specs.Tried.{Any};
-ghost use Rattle.pef_core.specs.Running.{IsTurn};
-ghost use Rattle.pef_core.specs.Undertaking.{one_set, set_at as set_at_of, stops_at as stops_at_of};
+ghost use Rattle.job_course.specs.Running.{IsTurn};
+ghost use Rattle.job_course.specs.Undertaking.{one_set, set_at as set_at_of, stops_at as stops_at_of};
 
 use crate::turn::Turn;
 use arrayvec::ArrayVec;
 use pef_match::{Job, Target};
 use policy_walk::{STOPS, Stop, Walk};
 
-/// The turn that a job begins with: its act, else what comes first behind it.
-pub(crate) fn first_turn(job: &Job) -> Option<Turn>
+/// The turn that a job begins with: its act, else the first alert, else the OEM action. A job that asks for nothing has none.
+pub fn first_turn(job: &Job) -> Option<Turn>
     ensures value { result ≡ first_turn_of job.now }
     ensures turn { IfSome result (λ turn. IsTurn job.now.targets turn) }
 {

@@ -1,7 +1,7 @@
 use Rattle.std.proofs.Common.{sym, ◌∙◌, ap}
-use Rattle.pef_core.specs.Undertaking.{turn_at, first_stage}
-use Rattle.pef_core.proofs.TurnOrder.{starts}
-use Rattle.pef_core.proofs.turns.first_turn.Goals as goal
+use Rattle.job_course.specs.Undertaking.{turn_at, first_stage}
+use Rattle.job_course.proofs.TurnOrder.{starts}
+use Rattle.job_course.proofs.turns.first_turn.Goals as goal
 
 pub returns-in-None-clause-value : goal.returns-in-None-clause-value
 returns-in-None-clause-value c =

@@ -1,11 +1,11 @@
 //! The job that runs.
 ghost use Rattle.std.specs.Prelude.{◌≡◌, ◌<◌, ◌≤◌, length, is_some, option_copied};
 ghost use Rattle.lan_dest.specs.Attempts.{verdict};
-ghost use Rattle.pef_core.specs.After.{part_begun, progress, attempt_after, IsProgress};
-ghost use Rattle.pef_core.specs.Counting.{same_ack};
-ghost use Rattle.pef_core.specs.Histories.{part_step, id_of};
-ghost use Rattle.pef_core.specs.Running.{IsTurn, MayCount, IsOpenAlert, IsOpenPart};
-ghost use Rattle.pef_core.specs.Undertaking.{set_at, target_at};
+ghost use Rattle.job_course.specs.Progress.{part_begun, progress, attempt_after, IsProgress};
+ghost use Rattle.job_course.specs.Counting.{same_ack};
+ghost use Rattle.job_course.specs.Steps.{part_step, id_of};
+ghost use Rattle.job_course.specs.Running.{IsTurn, MayCount, IsOpenAlert, IsOpenPart};
+ghost use Rattle.job_course.specs.Undertaking.{set_at, target_at};
 ghost use Rattle.pef_match.specs.Parts.{CanBeSent};
 
 use crate::counts::Counts;
@@ -31,7 +31,7 @@ pub struct Running {
 }
 
 impl Model for Running {
-    ghost use Rattle.pef_core.specs.Running.{Running, IsOpenPart};
+    ghost use Rattle.job_course.specs.Running.{Running, IsOpenPart};
 
     ghost Value = { Running };
 
@@ -41,8 +41,9 @@ impl Model for Running {
 }
 
 impl Running {
-    /// What was begun, with the part whose turn it is. An alert has this sequence number and this time-stamp.
-    pub(crate) fn begin(work: Work, turn: Turn, sequence: u16, stamp: u32) -> Running
+    /// What was begun, with the part whose turn it is. An alert has this sequence number, 1 to 65535, and this time-stamp, in hundredths
+    /// of a second; another part has neither.
+    pub fn begin(work: Work, turn: Turn, sequence: u16, stamp: u32) -> Running
         requires { IsTurn work.job.targets turn }
         ensures { result ≡ record { work = work; part = part_begun work.job sequence stamp turn } }
     {
@@ -60,29 +61,30 @@ impl Running {
         Running { work, part }
     }
 
-    // The part is open. This does nothing when it runs.
-    pub(crate) fn is_open(&self)
+    /// The part is open: an alert has one of the job's targets, hasn't ended, and at most one transmission of it is due. This does nothing
+    /// when it runs.
+    pub fn is_open(&self)
         ensures { IsOpenPart self.now.work.job.targets self.now.part }
     {
         let _ = &self.part;
     }
 
     /// The ID of the record whose job this is; 0000h for an alert at once.
-    pub(crate) fn id(&self) -> u16
+    pub fn id(&self) -> u16
         ensures { result ≡ id_of self.now.work.job.event }
     {
         id_of(self.work.job.event())
     }
 
     /// Whether this is the job of a record, and no alert at once.
-    pub(crate) fn is_job(&self) -> bool
+    pub fn is_job(&self) -> bool
         ensures { result ≡ is_some self.now.work.number }
     {
         self.work.number.is_some()
     }
 
     /// The step of the open part. Of an alert none is due while it waits.
-    pub(crate) fn step(&self, own: &Own) -> Option<Step>
+    pub fn step(&self, own: &Own) -> Option<Step>
         ensures { result ≡ part_step own.now self.now.work self.now.part }
     {
         let id = self.id();
@@ -93,8 +95,10 @@ impl Running {
         }
     }
 
-    /// How the job goes on behind what counts for it now.
-    pub(crate) fn after(self, counts: &Counts) -> Progress
+    /// How the job goes on behind what counts for it now: the act and the OEM action end with their outcome, an alert when it is
+    /// acknowledged or its retries are over (IPMI 2.0, section 23.2, LAN parameter 18). An alert is told an outcome only where a transmission of
+    /// it is due, and a second or an acknowledgement only where none is.
+    pub fn after(self, counts: &Counts) -> Progress
         requires { MayCount counts.now self.part }
         ensures progress { result ≡ progress counts.now self }
         ensures turn { IsProgress result }

@@ -1,7 +1,7 @@
 use Rattle.std.proofs.Common.{sym, ◌∙◌, ap}
-use Rattle.pef_core.specs.Histories.{part_step}
-use Rattle.pef_core.specs.Running.{Running}
-use Rattle.pef_core.proofs.running.Running.step.Goals as goal
+use Rattle.job_course.specs.Steps.{part_step}
+use Rattle.job_course.specs.Running.{Running}
+use Rattle.job_course.proofs.running.Running.step.Goals as goal
 
 pub returns-in-Alerting : goal.returns-in-Alerting
 returns-in-Alerting c =

@@ -2,15 +2,15 @@
 use Rattle.std.specs.Prelude.{◌≡◌, ⊤, ◌+◌, ◌<◌, ◌≤◌, List, length, Option, Some, None}
 use Rattle.lan_dest.specs.Attempts.{sends, verdict, IsDue}
 use Rattle.pef_match.specs.declared.target.Target.{Target}
-use Rattle.pef_core.specs.declared.part.Alerting.{Alerting as Alert}
-use Rattle.pef_core.specs.declared.part.Part.{Part}
-use Rattle.pef_core.specs.declared.part.Part.TheVariants.{Alerting}
-use Rattle.pef_core.specs.declared.counts.Counts.{Counts}
-use Rattle.pef_core.specs.declared.counts.Counts.TheVariants.{Heard}
-use Rattle.pef_core.specs.declared.turn.Turn.{Turn}
-use Rattle.pef_core.specs.declared.turn.Turn.TheVariants.{ToAlert}
-use Rattle.pef_core.specs.declared.work.Work.{Work}
-use Rattle.pef_core.specs.Undertaking.{set_at}
+use Rattle.job_course.specs.declared.part.Alerting.{Alerting as Alert}
+use Rattle.job_course.specs.declared.part.Part.{Part}
+use Rattle.job_course.specs.declared.part.Part.TheVariants.{Alerting}
+use Rattle.job_course.specs.declared.counts.Counts.{Counts}
+use Rattle.job_course.specs.declared.counts.Counts.TheVariants.{Heard}
+use Rattle.job_course.specs.declared.turn.Turn.{Turn}
+use Rattle.job_course.specs.declared.turn.Turn.TheVariants.{ToAlert}
+use Rattle.job_course.specs.declared.work.Work.{Work}
+use Rattle.job_course.specs.Undertaking.{set_at}
 
 pub record Running : Type 0 where
   pub work : Work
