@@ -1,7 +1,7 @@
 #!/usr/bin/env bash
 # Lets each allocation of the proved program fail in turn, on real files, and shows what `init`, `run`, `init-console` and `receive`
 # answered; and each one of its test of want of memory, on a board in memory.
-# It builds no Rattle: it takes crates/pef_cli/out/pef_cli, which ./demo at the top proves and builds, and pef_cli_tests beside it,
+# It builds no Rattle: it takes crates/pef_cli/out/pef_cli, which ./demo at the top proves and builds, and the tests of crates/pef_call,
 # which `rt test` builds there.
 # usage: run.sh [--quick]      the quick mode leaves the test out and runs behind the merge gate
 # Whatever fails: at status 10 and 1 the files are as they were, but at 10 of `receive`, which takes memory for each row; and a later
@@ -12,9 +12,9 @@ quick=
 here=$(cd "$(dirname "$0")" && pwd)
 top=$(cd "$here/../.." && pwd)
 program=$top/crates/pef_cli/out/pef_cli
-tests=${program}_tests
+tests=$top/crates/pef_call/out/pef_call_tests
 [ -x "$program" ] || { echo "$program is missing: ./demo at the top proves and builds it" >&2; exit 1; }
-[ -n "$quick" ] || [ -x "$tests" ] || { echo "$tests is missing: rt test in crates/pef_cli proves and builds it" >&2; exit 1; }
+[ -n "$quick" ] || [ -x "$tests" ] || { echo "$tests is missing: rt test in crates/pef_call proves and builds it" >&2; exit 1; }
 work=$(mktemp -d)
 trap 'rm -rf "$work"' EXIT
 gcc -O2 -shared -fPIC -o "$work/fail.so" "$here/fail.c"
