@@ -5,7 +5,7 @@ use crate::fault::Fault;
 use crate::play::play;
 use crate::supply::Supply;
 use crate::telling::{tell_call, tell_line};
-use crate::trial::Trial;
+use crate::trial::{Trial, begins_trial};
 use board_core::MemBoard;
 use std::alloc::Global;
 use std::mem;
@@ -55,7 +55,7 @@ impl Player {
     // Takes a line that begins a trial or says what its next call is given.
     fn take_other(&mut self, line: &str) -> Result<(), Fault> {
         self.life = None;
-        if !line.starts_with("trial ") {
+        if !begins_trial(line) {
             return self.trial.take(line);
         }
         self.trial = Trial::new(self.alloc);

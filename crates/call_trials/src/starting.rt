@@ -1,6 +1,7 @@
 //! From standard input to standard output.
 use crate::fault::Fault;
 use crate::player::Player;
+use crate::trial::begins_trial;
 use std::io;
 use std::io::{BufRead, BufReader, Write};
 
@@ -30,7 +31,7 @@ fn play_all(rt: &HostRuntime, player: &mut Player, number: &mut u64) -> Result<(
             return Err(Fault::Input);
         };
         *number = number.saturating_add(1);
-        if line.as_str().starts_with("trial ") {
+        if begins_trial(line.as_str()) {
             write_told(rt, player)?;
         }
         player.take(line.as_str())?;

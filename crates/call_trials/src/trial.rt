@@ -18,6 +18,11 @@ pub struct Trial {
     pub supply: Supply,
 }
 
+/// Whether a trial begins at this line.
+pub fn begins_trial(line: &str) -> bool {
+    line.starts_with("trial ")
+}
+
 impl Trial {
     /// No words, an empty file, and nothing else.
     pub fn new(alloc: Global) -> Trial {
