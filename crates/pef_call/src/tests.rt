@@ -1,31 +1,16 @@
-// Calls of the program on objects in memory: what the files of each form are, what it leaves and says.
+// What the trials of calls can't say: files and texts that fill all room, want of memory, a crash behind a crash, the law of two runs,
+// and the texts of faults.
 mod again;
-mod alerts;
-mod captures;
-mod commands;
-mod console;
-mod crash;
-mod crash_console;
 mod fault;
-mod frames;
 mod full;
 mod full_console;
-mod init;
-mod list;
-mod listen;
-mod live;
+mod lives;
+mod long_text;
 mod memory;
-mod run;
-mod show;
 
 use crate::program::top;
 use board_core::{Act, MemBoard, MemFeed, MemSink, MemSource, Sent, Step};
 use std::alloc::{AllocError, Global};
-use std::process::Abort;
-
-// A controller's settings with an event filter.
-const SETTINGS: &str =
-    "guid = \"00112233-4455-6677-8899-aabbccddeeff\"\nagent = \"10.0.0.2\"\nfilter = \"80200010ffff04ff010400000000000000000000\"\n";
 
 // The header of a controller's file, these settings with the defaults, and a closed gate.
 const MADE: [u8; 60] = [
@@ -40,20 +25,8 @@ const MADE: [u8; 60] = [
     0, // gate
 ];
 
-// The same before its mark is written.
-const UNMARKED: [u8; 60] = [
-    0, 1, 55, 0, 0, 0x11, 0x22, 0x33, 0x44, 0x55, 0x66, 0x77, 0x88, 0x99, 0xaa, 0xbb, 0xcc, 0xdd,
-    0xee, 0xff, 10, 0, 0, 2, 0, 0, 0, 0, 0, 0, 162, 0, 162, 0, 162, 0, 1, 63, 0, 0x80, 0x20, 0,
-    0x10, 0xff, 0xff, 4, 0xff, 1, 4, 0, 0, 0, 0, 0, 0, 0, 0, 0, 0, 0,
-];
-
-// A console's file, formatted.
-const CONSOLE: [u8; 7] = [0xa5, 2, 2, 0, 0x6f, 2, 0];
-
-// A script of one event that the filter asks a diagnostic interrupt for, and what a run of it says.
+// A script of one event that the filter asks a diagnostic interrupt for.
 const SCRIPT: &str = "script 00000001 1\nevent 01000200ca9a3b200004043001521020\nend\n";
-
-const SAID: &str = "open 00000001 1\nevent 0001\nact diagnostic 0001 done\nclose\nok 3\n";
 
 // Entries with their gates: a script of one item is opened, a fan's event, what its step was told, and the script is
 // closed.
@@ -86,28 +59,6 @@ fn file_with(alloc: Global, entries: &[&[u8]]) -> Result<Vec<u8>, AllocError> {
     Ok(file)
 }
 
-// A call of the program, and what it leaves.
-#[derive(Clone, Copy)]
-struct Case<'a> {
-    what: &'a str,
-    file: &'a [u8],
-    text: &'a str,
-    failing_disk: &'a [u64],
-    failing_issue: &'a [u64],
-    failing_source: &'a [u64],
-    failing_sink: Option<u64>,
-    status: u8,
-    written: &'a str,
-    after: &'a [u8],
-    // the records whose diagnostic interrupts were issued
-    steps: &'a [u16],
-}
-
-// The feed of a form that has none.
-fn no_feed(alloc: Global) -> Result<MemFeed, AllocError> {
-    MemFeed::new(alloc, &[], &[])
-}
-
 fn words_in(alloc: Global, words: &[&str]) -> Result<Vec<String>, AllocError> {
     let mut all = Vec::new(alloc);
     for word in words {
@@ -132,28 +83,24 @@ fn records_of(alloc: Global, sent: &[Sent]) -> Result<Vec<u16>, AllocError> {
     Ok(records)
 }
 
-fn check(rt: &impl Abort, alloc: Global, words: &[&str], case: &Case<'_>) {
-    let what = case.what;
-    let words = words_in(alloc, words).expect(rt, "memory");
-    let mut board = MemBoard::new(alloc, case.file, case.failing_disk, case.failing_issue).expect(
-        rt, "memory",
-    );
-    let mut source = MemSource::new(alloc, case.text.as_bytes(), case.failing_source).expect(
-        rt, "memory",
-    );
-    let mut feed = no_feed(alloc).expect(rt, "memory");
-    let mut out = MemSink::new(alloc, case.failing_sink);
+// A call with these words and this text on a board, without arrivals: the status, and what it wrote.
+fn call(
+    alloc: Global,
+    words: &[&str],
+    board: &mut MemBoard,
+    text: &str,
+) -> Result<(u8, MemSink), AllocError> {
+    let words = words_in(alloc, words)?;
+    let mut source = MemSource::new(alloc, text.as_bytes(), &[])?;
+    let mut feed = MemFeed::new(alloc, &[], &[])?;
+    let mut out = MemSink::new(alloc, None);
     let status = top(
         alloc,
         words.as_slice(),
-        &mut board,
+        board,
         &mut source,
         &mut feed,
         &mut out,
     );
-    assert_eq!(rt; status, case.status, "{what}: status");
-    assert_eq!(rt; out.written(), case.written.as_bytes(), "{what}: output");
-    assert!(rt; board.octets() == case.after, "{what}: file");
-    let steps = records_of(alloc, board.issued()).expect(rt, "memory");
-    assert_eq!(rt; steps.as_slice(), case.steps, "{what}: steps");
+    Ok((status, out))
 }

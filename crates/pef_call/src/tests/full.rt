@@ -1,8 +1,7 @@
 // The form `run` at the end of the room: a state file has at most 16,777,216 octets. `rt test` runs it in a second or two; the checks
 // of `rt try --test` make it too slow for the time that a test has there.
-use super::{CLOSED, DONE, MADE, OPENED, event, no_feed, records_of, words_in};
-use crate::program::top;
-use board_core::{MemBoard, MemSink, MemSource};
+use super::{CLOSED, DONE, MADE, OPENED, call, event, records_of};
+use board_core::MemBoard;
 use std::alloc::{AllocError, Global};
 use std::process::Abort;
 
@@ -68,19 +67,9 @@ fn check(rt: &impl Abort, alloc: Global, case: &Case<'_>) {
     let mut before = after.clone().expect(rt, "memory");
     before.push(0).expect(rt, "memory");
     add_stored(&mut after, case.stored).expect(rt, "memory");
-    let words = words_in(alloc, &["run", "state", "script"]).expect(rt, "memory");
     let mut board = MemBoard::new(alloc, before.as_slice(), &[], &[]).expect(rt, "memory");
-    let mut source = MemSource::new(alloc, SCRIPT.as_bytes(), &[]).expect(rt, "memory");
-    let mut feed = no_feed(alloc).expect(rt, "memory");
-    let mut out = MemSink::new(alloc, None);
-    let status = top(
-        alloc,
-        words.as_slice(),
-        &mut board,
-        &mut source,
-        &mut feed,
-        &mut out,
-    );
+    let words = ["run", "state", "script"];
+    let (status, out) = call(alloc, &words, &mut board, SCRIPT).expect(rt, "memory");
     assert_eq!(rt; status, case.status, "{left} left: status");
     assert_eq!(rt;
         out.written(),

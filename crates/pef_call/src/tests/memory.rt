@@ -1,26 +1,14 @@
 // One allocation that fails, wherever it falls: `rt try --test --fail-alloc N` lets the Nth one of this test fail. With memory
 // enough it is a run and one more.
-use super::{CLOSED, DONE, EVENT, FAILED, MADE, OPENED, SCRIPT, file_with, no_feed, words_in};
-use crate::program::top;
-use board_core::{MemBoard, MemSink, MemSource};
+use super::{CLOSED, DONE, EVENT, FAILED, MADE, OPENED, SCRIPT, call, file_with};
+use board_core::MemBoard;
 use std::alloc::{AllocError, Global};
 use std::process::Abort;
 
 // Calls `run` on this file, and checks that its answer names what found no memory. Answers the status and what it leaves.
 fn live(rt: &impl Abort, alloc: Global, file: &[u8]) -> Result<(u8, Vec<u8>), AllocError> {
-    let words = words_in(alloc, &["run", "state", "script"])?;
     let mut board = MemBoard::new(alloc, file, &[], &[])?;
-    let mut source = MemSource::new(alloc, SCRIPT.as_bytes(), &[])?;
-    let mut feed = no_feed(alloc)?;
-    let mut out = MemSink::new(alloc, None);
-    let status = top(
-        alloc,
-        words.as_slice(),
-        &mut board,
-        &mut source,
-        &mut feed,
-        &mut out,
-    );
+    let (status, out) = call(alloc, &["run", "state", "script"], &mut board, SCRIPT)?;
     match status {
         0 => assert!(rt; out.starved() == 0),
         7 => assert!(rt; board.starved() == 1 && out.written().ends_with(b"disk failed\n")),
