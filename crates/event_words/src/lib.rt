@@ -15,6 +15,3 @@ pub use detail::{Detail, detail_2, detail_3};
 pub use event::{Direction, Event};
 pub use event_type::EventType;
 pub use sentences::{oem_record_line, sentence_line};
-
-#[cfg(test)]
-mod tests;

@@ -53,6 +53,3 @@ fn hold(opened: io::Result<File>) -> Result<HeldFile, HoldFault> {
         Err(TryLockError::Error(error)) => Err(HoldFault::System(error)),
     }
 }
-
-#[cfg(test)]
-mod tests;

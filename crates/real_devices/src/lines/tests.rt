@@ -41,15 +41,9 @@ fn no_line_is_glued_to_another(rt: HostRuntime) {
             first: Some(room),
             file: &mut octets,
         };
-        assert!(rt;
-            append(&mut file, &mut cut, b"oem 0001\n").is_err(),
-            "{room}"
-        );
-        assert!(rt;
-            append(&mut file, &mut cut, b"oem 0002\n").is_ok(),
-            "{room}"
-        );
-        assert!(rt; !cut, "{room}");
+        let first = append(&mut file, &mut cut, b"oem 0001\n").is_err();
+        let second = append(&mut file, &mut cut, b"oem 0002\n").is_ok();
+        assert!(rt; first && second && !cut, "{room}");
         assert_eq!(rt; octets.as_slice(), text.as_bytes(), "{room}");
     }
 }
