@@ -1,12 +1,12 @@
-// What the trials of calls can't say: files and texts that fill all room, want of memory, a crash behind a crash, the law of two runs,
-// and the texts of faults.
+// What the trials of calls can't say: files and texts that fill all room, odd words and lines, want of memory, a crash behind a crash,
+// the law of two runs, and the texts of faults.
 mod again;
 mod fault;
 mod full;
 mod full_console;
 mod lives;
-mod long_text;
 mod memory;
+mod odd;
 
 use crate::program::top;
 use board_core::{Act, MemBoard, MemFeed, MemSink, MemSource, Sent, Step};

@@ -68,7 +68,10 @@ fn over_three_lives_each_crash_repeats_at_most_one_step(rt: HostRuntime) -> Resu
                 break;
             };
             live(&rt, alloc, &mut last)?;
-            assert!(rt; last.octets().starts_with(whole.as_slice()), "moments {one} and {two}");
+            assert!(rt;
+                last.octets().starts_with(whole.as_slice()),
+                "moments {one} and {two}"
+            );
             most = most.max(repeats(&rt, alloc, &last)?);
         }
     }
