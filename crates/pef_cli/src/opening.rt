@@ -1,9 +1,9 @@
 //! Opening the files and the socket that a form's words name.
 use crate::asked::Asked;
-use pef_call::Form;
 use crate::no_start::NoStart;
 use crate::state_reader::StateReader;
 use board_core::Address;
+use pef_call::Form;
 use real_devices::{FileBoard, FileSource, HeldFile, Plant, UdpFeed};
 
 /// Opens the other file, then the state file with its plant. A form that formats creates the state file where it is missing. Nothing is

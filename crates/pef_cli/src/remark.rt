@@ -1,9 +1,9 @@
 //! What a person reads on standard error behind a call.
 use crate::asked::Asked;
-use pef_call::Form;
 use crate::state_reader::StateReader;
 use crate::unformatted::{Unformatted, why_unformatted};
 use board_core::Board;
+use pef_call::Form;
 use pef_core::Controller;
 use read_ahead::ReadAhead;
 use real_devices::{Failure, FileBoard, StdSink};

@@ -1,11 +1,10 @@
 //! From the words that the program was called with to its call.
 use crate::asked::Asked;
-use pef_call::Form;
 use crate::no_start::NoStart;
 use crate::opening::{open_feed, open_files, open_to_read};
-use pef_call::{paths, top};
 use crate::remark::{tell, tell_of_reading};
 use board_core::{MemBoard, MemFeed, MemSource};
+use pef_call::{Form, paths, top};
 use read_ahead::ReadAhead;
 use real_devices::{StandardStreams, StdSink};
 use script_text::address;

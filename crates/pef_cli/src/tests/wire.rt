@@ -3,12 +3,10 @@ use crate::asked::Asked;
 use crate::opening::open_feed;
 use board_core::{Address, MemSink, MemSource};
 use pef_call::{Form, top};
-use std::alloc::AllocError;
 use std::net::{SocketAddr, UdpSocket};
-use std::process::Abort;
 use std::test::Fail;
 use std::time::Duration;
-use std::{env, fs, process};
+use std::{env, fs, io, process};
 
 // A fan below its lower critical threshold, with sequence number 1.
 const TRAP: [u8; 108] = [
@@ -42,56 +40,46 @@ const MADE: [u8; 60] = [
 ];
 
 // A path of this test alone in the folder for temporary files.
-fn path_of(rt: &HostRuntime, name: &str) -> Result<String, AllocError> {
+fn path_of(rt: &HostRuntime, name: &str) -> io::Result<String> {
     let id = process::id(rt.process());
-    match env::temp_dir(rt) {
-        Ok(folder) => format!(in rt.alloc(); "{}/{name}-{id}", folder.display()),
-        Err(_) => format!(in rt.alloc(); "{name}-{id}"),
-    }
+    let folder = env::temp_dir(rt)?;
+    Ok(format!(in rt.alloc(); "{}/{name}-{id}", folder.display())?)
 }
 
 // The state file and its plant are gone.
-fn remove(rt: &HostRuntime, path: &str) -> Result<(), AllocError> {
+fn remove(rt: &HostRuntime, path: &str) -> io::Result<()> {
     let plant = format!(in rt.alloc(); "{path}.plant")?;
-    fs::remove_file(rt, plant.as_str()).expect(rt, "the plant's file");
-    fs::remove_file(rt, path).expect(rt, "the file");
-    Ok(())
+    fs::remove_file(rt, plant.as_str())?;
+    fs::remove_file(rt, path)
 }
 
 // A socket on loopback that waits ten seconds for an answer, and its port.
-fn sender_on_loopback(rt: &HostRuntime) -> (UdpSocket, u16) {
-    let sender = UdpSocket::bind(rt, "127.0.0.1:0").expect(rt, "a socket");
-    sender
-        .set_read_timeout(Some(Duration::from_secs(10)))
-        .expect(rt, "a time");
-    let port = sender.local_addr().expect(rt, "an address").port();
-    (sender, port)
+fn sender_on_loopback(rt: &HostRuntime) -> io::Result<(UdpSocket, u16)> {
+    let sender = UdpSocket::bind(rt, "127.0.0.1:0")?;
+    sender.set_read_timeout(Some(Duration::from_secs(10)))?;
+    let port = sender.local_addr()?.port();
+    Ok((sender, port))
 }
 
-// The form, called as `word` with the state file at `path`, takes the one datagram that `sender` sends it: what it says, and where it
-// listened.
+// A call of the form by its words on the state file at the path, which is given the one datagram that the sender sends: its status, what
+// it said, and where it listened.
 fn take_one(
     rt: &HostRuntime,
-    form: Form,
+    asked: &Asked<'_>,
     word: &str,
-    path: &str,
     sender: &UdpSocket,
     datagram: &[u8],
-) -> Result<(MemSink, SocketAddr), AllocError> {
+) -> io::Result<(u8, MemSink, SocketAddr)> {
     let alloc = rt.alloc();
-    let asked = Asked {
-        form,
-        state: path,
-        second: "127.0.0.1:0",
-    };
     let at = Address {
         ip: [127, 0, 0, 1],
         port: 0,
     };
-    let (mut board, mut feed) = open_feed(rt, &asked, &at).expect(rt, "a board and a feed");
-    let socket = feed.socket().expect(rt, "the socket");
-    let to = socket.local_addr().expect(rt, "an address");
-    assert!(rt; sender.send_to(datagram, to).is_ok());
+    let Ok((mut board, mut feed)) = open_feed(rt, asked, &at) else {
+        return Err(io::Error::from(io::ErrorKind::NotFound));
+    };
+    let to = feed.socket()?.local_addr()?;
+    sender.send_to(datagram, to)?;
     let mut words = Vec::new(alloc);
     for word in [word, "state", "127.0.0.1:0", "1"] {
         words.push(String::from_str(alloc, word)?)?;
@@ -106,19 +94,24 @@ fn take_one(
         &mut feed,
         &mut out,
     );
-    assert_eq!(rt; status, 0);
-    Ok((out, to))
+    Ok((status, out, to))
 }
 
 // A trap comes, and its sender reads the acknowledgement, which comes from another socket than the one that listens.
 #[test]
 fn a_trap_on_the_wire_is_acknowledged(rt: HostRuntime) -> Result<(), Fail> {
     let alloc = rt.alloc();
-    let (sender, port) = sender_on_loopback(&rt);
-    let path = path_of(&rt, "listen")?;
+    let (sender, port) = sender_on_loopback(&rt).expect(&rt, "a socket");
+    let path = path_of(&rt, "listen").expect(&rt, "a path");
     let [low, high] = port.to_le_bytes();
     fs::write(&rt, path.as_str(), [0xa5, 2, 2, 0, low, high, 0]).expect(&rt, "a file");
-    let (out, to) = take_one(&rt, Form::Listen, "listen", path.as_str(), &sender, &TRAP)?;
+    let asked = Asked {
+        form: Form::Listen,
+        state: path.as_str(),
+        second: "127.0.0.1:0",
+    };
+    let (status, out, to) = take_one(&rt, &asked, "listen", &sender, &TRAP).expect(&rt, "a call");
+    assert_eq!(rt; status, 0);
     let mut room = [0u8; 64];
     let (count, from) = sender
         .recv_from(&mut room)
@@ -129,7 +122,7 @@ fn a_trap_on_the_wire_is_acknowledged(rt: HostRuntime) -> Result<(), Fail> {
         "row 1\nsend 127.0.0.1:{port} 0600ff07000000000000000000132010d0810417010080edef062020305210200f done\nok 1\n"
     )?;
     assert_eq!(rt; out.written(), said.as_bytes());
-    remove(&rt, path.as_str())?;
+    remove(&rt, path.as_str()).expect(&rt, "no file is left");
     Ok(())
 }
 
@@ -137,11 +130,17 @@ fn a_trap_on_the_wire_is_acknowledged(rt: HostRuntime) -> Result<(), Fail> {
 #[test]
 fn a_ping_on_the_wire_is_answered(rt: HostRuntime) -> Result<(), Fail> {
     let alloc = rt.alloc();
-    let (sender, port) = sender_on_loopback(&rt);
-    let path = path_of(&rt, "live")?;
+    let (sender, port) = sender_on_loopback(&rt).expect(&rt, "a socket");
+    let path = path_of(&rt, "live").expect(&rt, "a path");
     fs::write(&rt, path.as_str(), MADE).expect(&rt, "a file");
     let ping = [6, 0, 0xff, 6, 0, 0, 0x11, 0xbe, 0x80, 0, 0, 0];
-    let (out, to) = take_one(&rt, Form::Live, "live", path.as_str(), &sender, &ping)?;
+    let asked = Asked {
+        form: Form::Live,
+        state: path.as_str(),
+        second: "127.0.0.1:0",
+    };
+    let (status, out, to) = take_one(&rt, &asked, "live", &sender, &ping).expect(&rt, "a call");
+    assert_eq!(rt; status, 0);
     let mut room = [0u8; 64];
     let (count, from) = sender.recv_from(&mut room).expect(&rt, "a pong");
     let pong = [
@@ -154,6 +153,6 @@ fn a_ping_on_the_wire_is_answered(rt: HostRuntime) -> Result<(), Fail> {
         "frame ping\nsend 127.0.0.1:{port} 0600ff06000011be40000010000011be000000008100000000000000 done\nok 1\n"
     )?;
     assert_eq!(rt; out.written(), said.as_bytes());
-    remove(&rt, path.as_str())?;
+    remove(&rt, path.as_str()).expect(&rt, "no file is left");
     Ok(())
 }
