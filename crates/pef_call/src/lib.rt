@@ -10,6 +10,7 @@ mod listening;
 mod listing;
 mod program;
 mod receiving;
+mod running;
 mod showing;
 mod words;
 

@@ -25,15 +25,13 @@ use crate::kinds::KINDS;
 use crate::listening::listen_to_traps;
 use crate::listing::list;
 use crate::receiving::receive;
+use crate::running::{listen_to_frames, run_script};
 use crate::showing::show;
 use crate::words::paths;
 use board_core::{Board, Feed, Sink, Source};
 use console_settings::ConsoleSettings;
-use feed_run::listen;
-use pef_core::Controller;
 use pef_settings::ControllerSettings;
 use report_line::{Ending, finish};
-use script_run::run;
 use std::alloc::Global;
 
 /// Does what the words behind the program's name ask for, and answers the status. `board` is the state file of the form, `source` its
@@ -80,9 +78,9 @@ pub fn top<B: Board, S: Source, F: Feed, K: Sink>(
     match paths.form {
         Form::Init => init::<ControllerSettings, B, S, K>(alloc, &KINDS, board, source, out),
         Form::InitConsole => init::<ConsoleSettings, B, S, K>(alloc, &KINDS, board, source, out),
-        Form::Run => run::<Controller, B, S, K>(alloc, board, source, out),
+        Form::Run => run_script(alloc, board, source, out),
         Form::Receive => receive(alloc, board, source, out),
-        Form::Live => listen::<Controller, B, F, K>(alloc, board, feed, out, paths.arrivals as u32),
+        Form::Live => listen_to_frames(alloc, board, feed, out, paths.arrivals as u32),
         Form::Listen => listen_to_traps(alloc, board, feed, out, paths.arrivals as u32),
         Form::Show => show(alloc, board, out),
         Form::List => list(alloc, board, out),

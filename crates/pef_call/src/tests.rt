@@ -1,4 +1,4 @@
-// What the trials of calls can't say: files and texts that fill all room, odd words and lines, want of memory, a crash behind a crash,
+// What the trials of calls can't say: files and texts that fill all room, odd words and lines, out of memory, a crash behind a crash,
 // the law of two runs, and the texts of faults.
 mod again;
 mod fault;

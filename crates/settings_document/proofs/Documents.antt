@@ -11,7 +11,7 @@ use Rattle.report_line.specs.declared.refusal.SettingsRefusal.TheVariants.{Text}
 use Rattle.script_text.specs.declared.settings.SettingsFault.{SettingsFault}
 use Rattle.script_text.specs.declared.settings.SettingsFault.TheVariants.{Refused, Memory as NoMemory}
 use Rattle.toml.specs.declared.de.error.Error.{Error}
-use Rattle.toml.specs.Errors.{IsMemory}
+use Rattle.toml.specs.Errors.{IsBlank, IsMemory}
 use Rattle.toml.specs.Data.{Members}
 use Rattle.toml.specs.Parse.{parse_document}
 use Rattle.toml.specs.View.{members_view}
@@ -59,3 +59,8 @@ refused_as_text text fault told why short none memory refused is =
     let kept : ¬ IsMemory fault = λ m. let clash : NoMemory ≡ Refused why = sym (memory m) ∙ is in cc clash in
     let same : Refused Text ≡ Refused why = sym (refused kept) ∙ is in
     no_document text short (none kept) ∙ ap Err (cc same)
+
+-- what the reader refuses since it is out of memory isn't blank
+pub wants_memory : (text : List ℕ) (fault : Error) (told : SettingsFault) → (IsMemory fault → ¬ IsBlank text) → (¬ IsMemory fault → told ≡ Refused Text) → told ≡ NoMemory → ¬ IsBlank text
+wants_memory text fault told memory refused is blank =
+    let clash : NoMemory ≡ Refused Text = sym is ∙ refused (λ m. memory m blank) in cc clash

@@ -1,7 +1,8 @@
 // A settings text as a TOML document.
-ghost use Rattle.std.specs.Prelude.{◌≡◌, Ok, Err, IfOk, IsErrOf};
+ghost use Rattle.std.specs.Prelude.{◌≡◌, ◌≤◌, Ok, Err, IfOk, IsErrOf, length};
 ghost use Rattle.report_line.specs.declared.refusal.SettingsRefusal.{SettingsRefusal};
-ghost use Rattle.toml.specs.Errors.{IsMemory};
+ghost use Rattle.script_text.specs.Whole.{text_limit};
+ghost use Rattle.toml.specs.Errors.{IsBlank, IsMemory};
 ghost use Rattle.toml.specs.View.{table_view};
 ghost use Rattle.settings_document.specs.Document.{document_of, has_key, has_only};
 
@@ -12,10 +13,11 @@ use toml::de::Error;
 use toml::{Table, table_from_slice};
 
 /// The document that a settings text is. It is refused as `Long` where it has more than 65,536 octets, and as `Text` where it is no
-/// TOML document in UTF-8.
+/// TOML document in UTF-8. Only a text that is read, and that isn't blank, wants memory.
 pub fn read_document(alloc: Global, text: &[u8]) -> Result<Table, SettingsFault>
     ensures given { IfOk result (λ document. document_of text.now ≡ Ok (table_view document)) }
     ensures refused { (why : SettingsRefusal) → IsErrOf result (SettingsFault.Refused why) → document_of text.now ≡ Err why }
+    ensures memory { IsErrOf result SettingsFault.Memory → (length text.now ≤ text_limit) × ¬ IsBlank text.now }
 {
     if text.len() > TEXT_LIMIT {
         return Err(SettingsFault::Refused(SettingsRefusal::Long));
