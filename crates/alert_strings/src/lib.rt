@@ -8,6 +8,3 @@ mod text;
 
 pub use fault::StringFault;
 pub use strings::Strings;
-
-#[cfg(test)]
-mod tests;

@@ -12,6 +12,3 @@ pub use draw::Draw;
 pub use laws::{acknowledgement_law, trap_law};
 pub use origin::Origin;
 pub use sending::trap_of;
-
-#[cfg(test)]
-mod tests;

@@ -20,6 +20,3 @@ pub use lan_writing::lan_write;
 pub use laws::{one_message, one_packet};
 pub use message::LanMessage;
 pub use packet::{Packet, ack_of, pong};
-
-#[cfg(test)]
-mod tests;

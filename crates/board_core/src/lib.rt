@@ -30,8 +30,3 @@ pub use memory_source::MemSource;
 pub use sink::{Sink, SinkFailed};
 pub use source::{Source, SourceFailed};
 pub use step::{Act, Address, Sent, Step, Told};
-
-#[cfg(test)]
-mod crash_tests;
-#[cfg(test)]
-mod tests;

@@ -6,6 +6,3 @@ mod text;
 
 pub use kind::{KIND, SETTINGS};
 pub use text::{ConsoleSettings, DEFAULT_PORT};
-
-#[cfg(test)]
-mod tests;

@@ -8,6 +8,3 @@ mod log;
 pub use event::Record;
 pub use fault::{LogFault, RecordFault};
 pub use log::{Log, RECORDS};
-
-#[cfg(test)]
-mod tests;

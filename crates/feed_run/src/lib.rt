@@ -7,6 +7,3 @@ mod running;
 mod stop;
 
 pub use running::listen;
-
-#[cfg(test)]
-mod tests;

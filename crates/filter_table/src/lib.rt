@@ -7,8 +7,6 @@ mod filter;
 mod filters;
 mod laws;
 mod matching;
-#[cfg(test)]
-mod tests;
 
 pub use fault::NoSuch;
 pub use filter::Filter;

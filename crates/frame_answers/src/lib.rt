@@ -13,6 +13,3 @@ pub use answering::{answered, kind_of};
 pub use kind::FrameKind;
 pub use laws::{by_layout, few_replies};
 pub use replies::Replies;
-
-#[cfg(test)]
-mod tests;

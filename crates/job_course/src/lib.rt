@@ -18,6 +18,3 @@ pub use running::Running;
 pub use turn::Turn;
 pub use turns::first_turn;
 pub use work::Work;
-
-#[cfg(test)]
-mod tests;

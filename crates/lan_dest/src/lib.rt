@@ -12,8 +12,3 @@ mod usable;
 pub use attempt::Attempt;
 pub use destination::{Destination, Ports};
 pub use lan::Lan;
-
-#[cfg(test)]
-mod attempt_tests;
-#[cfg(test)]
-mod tests;

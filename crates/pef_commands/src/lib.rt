@@ -8,6 +8,3 @@ mod request;
 pub use command::Command;
 pub use parsing::parse;
 pub use request::Request;
-
-#[cfg(test)]
-mod tests;

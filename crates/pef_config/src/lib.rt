@@ -11,6 +11,3 @@ mod writing;
 
 pub use config::Config;
 pub use initial::Initial;
-
-#[cfg(test)]
-mod tests;

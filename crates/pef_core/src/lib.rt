@@ -23,6 +23,3 @@ pub use laws::{hold_law, idle_law, job_law, order_law, retry_law, sequence_law, 
 pub use note::Note;
 pub use postpone::Postpone;
 pub use summary::Summary;
-
-#[cfg(test)]
-mod tests;

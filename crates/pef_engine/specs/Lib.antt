@@ -6,4 +6,3 @@ pub mod Lives
 pub mod Engine
 pub mod Scripts
 pub mod Marks
-pub mod Tally

@@ -21,6 +21,3 @@ pub use machine::Machine;
 pub use marks::{Mark, read_mark, write_mark};
 pub use script::{Script, ScriptStep, may_come, script_behind};
 pub use scripted::Scripted;
-
-#[cfg(test)]
-mod tests;

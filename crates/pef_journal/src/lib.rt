@@ -17,6 +17,3 @@ pub use fault::JournalFault;
 pub use formatting::{format, is_formatted};
 pub use journal::Journal;
 pub use kind::{FileKind, MAX_SETTINGS};
-
-#[cfg(test)]
-mod tests;

@@ -15,8 +15,3 @@ pub use job::Job;
 pub use laws::targets_law;
 pub use selecting::job_of;
 pub use target::Target;
-
-#[cfg(test)]
-mod alert_tests;
-#[cfg(test)]
-mod tests;

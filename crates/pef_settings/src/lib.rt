@@ -11,6 +11,3 @@ pub use layout::{
     SETTINGS, SYSTEM,
 };
 pub use text::ControllerSettings;
-
-#[cfg(test)]
-mod tests;

@@ -14,6 +14,3 @@ pub use body::Body;
 pub use event::{Identity, body_of, specific_of};
 pub use fault::BodyFault;
 pub use tail::{tail_of, tail_text};
-
-#[cfg(test)]
-mod tests;

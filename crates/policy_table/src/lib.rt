@@ -8,6 +8,3 @@ mod policies;
 pub use entry::PolicyEntry;
 pub use fault::NoSuch;
 pub use policies::{ENTRIES, Policies};
-
-#[cfg(test)]
-mod tests;

@@ -9,6 +9,3 @@ mod walk;
 pub use laws::policy_law;
 pub use stop::Stop;
 pub use walk::{STOPS, Walk};
-
-#[cfg(test)]
-mod tests;

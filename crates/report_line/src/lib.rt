@@ -10,6 +10,3 @@ pub use builder::{LineBuilder, ReportLine};
 pub use ending::{Ending, last_line, status};
 pub use finishing::finish;
 pub use refusal::{SettingsKey, SettingsRefusal};
-
-#[cfg(test)]
-mod tests;

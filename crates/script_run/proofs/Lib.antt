@@ -7,6 +7,4 @@ mod PlayLemmas
 pub mod TopLemmas
 pub mod EndLemmas
 pub mod PerformLemmas
-mod Shelf
 mod InMemory
-mod ShelfRoom

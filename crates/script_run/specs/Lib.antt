@@ -8,4 +8,3 @@ pub mod Playing
 pub mod Performing
 pub mod Top
 pub mod InMemory
-pub mod Shelf

@@ -15,6 +15,3 @@ pub use laws::{run_after_crash, run_in_memory};
 pub use running::{ending_at_opening, ending_of_step, run};
 pub use settling::{settle_and_say, take_one};
 pub use stop::StepStop;
-
-#[cfg(test)]
-mod tests;

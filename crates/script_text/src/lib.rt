@@ -23,6 +23,3 @@ pub use reader::{Found, LineBuffer, Reader};
 pub use settings::{SettingsFault, SettingsOctets, SettingsText};
 pub use whole::{TEXT_LIMIT, TextFault, read_text};
 pub use words::{first_word, is_end};
-
-#[cfg(test)]
-mod tests;

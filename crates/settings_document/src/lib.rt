@@ -7,6 +7,3 @@ mod values;
 
 pub use document::{has_only, read_document};
 pub use values::{number_or, value_at};
-
-#[cfg(test)]
-mod tests;

@@ -16,6 +16,3 @@ pub use reading::decode;
 pub use refusal::{Refusal, Why};
 pub use trap::{Trap, TrapView};
 pub use writing::encode;
-
-#[cfg(test)]
-mod tests;

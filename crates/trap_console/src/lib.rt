@@ -22,6 +22,3 @@ pub use key::{Key, key_of};
 pub use laws::{acks_law, received_law, rows_law};
 pub use listing::{list, row_line};
 pub use row::Row;
-
-#[cfg(test)]
-mod tests;

@@ -1,0 +1,2 @@
+mod Shelf
+mod ShelfRoom
