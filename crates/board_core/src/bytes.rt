@@ -64,7 +64,7 @@ impl<const N: usize> Bytes<N> {
         self.octets.as_slice()
     }
 
-    /// Lets all octets go.
+    /// Clears the list.
     pub fn clear(&mut self)
         ensures { self.new ≡ [] }
     {

@@ -7,7 +7,7 @@ use Rattle.pef_match.specs.Parts.{Parts}
 use Rattle.pef_match.specs.declared.target.Target.{Target}
 use Rattle.job_course.specs.declared.counts.Counts.{Counts}
 use Rattle.job_course.specs.declared.counts.Counts.TheVariants.{Second, Ack, Heard}
-use Rattle.job_course.specs.declared.turn.Turn.TheVariants.{ToAct, ToAlert, ToCall}
+use Rattle.job_course.specs.declared.turn.Turn.TheVariants.{ToAct, ToAlert, ToOemAction}
 use Rattle.job_course.specs.Undertaking.{Undertaking, turn_of, drawn_with, sequence_behind}
 
 -- a fan's event with this ID, this type and this event data 1
@@ -71,8 +71,8 @@ turns = (refl, refl, refl, refl, refl, refl, refl)
 abbrev pub second_set : List Counts
 second_set = ack 5 0x20 ∷ sent_once
 
-endings : (turn_of (undertaking (Heard Failed ∷ second_set)) ≡ Some (ToAlert 2 1)) × (turn_of (undertaking (Heard Done ∷ second_set)) ≡ Some ToCall)
-    × (turn_of (undertaking (Heard Failed ∷ Heard Failed ∷ second_set)) ≡ Some ToCall) × (turn_of (undertaking (Heard Failed ∷ Heard Done ∷ second_set)) ≡ None)
+endings : (turn_of (undertaking (Heard Failed ∷ second_set)) ≡ Some (ToAlert 2 1)) × (turn_of (undertaking (Heard Done ∷ second_set)) ≡ Some ToOemAction)
+    × (turn_of (undertaking (Heard Failed ∷ Heard Failed ∷ second_set)) ≡ Some ToOemAction) × (turn_of (undertaking (Heard Failed ∷ Heard Done ∷ second_set)) ≡ None)
 endings = (refl, refl, refl, refl)
 
 -- how many alerts were begun, which an alert counts from its start on; the sequence number behind 65535 is 1

@@ -10,7 +10,7 @@ use Rattle.policy_walk.proofs.Growing.{place_after-more}
 use Rattle.pef_match.specs.declared.target.Target.{Target}
 use Rattle.pef_match.specs.Parts.{Parts}
 use Rattle.job_course.specs.declared.turn.Turn.{Turn}
-use Rattle.job_course.specs.declared.turn.Turn.TheVariants.{ToAct, ToAlert, ToCall}
+use Rattle.job_course.specs.declared.turn.Turn.TheVariants.{ToAct, ToAlert, ToOemAction}
 use Rattle.job_course.specs.Undertaking.{Stage, First, InSet, Finished, one_set, set_at, stops_at, turn_in, turn_at, behind_alert, stage_after}
 use Rattle.job_course.specs.Turns.{turn_from, turn_or_next}
 
@@ -72,7 +72,7 @@ starts job first = by (nat_lt first (length job.targets)) refl
     by true is = ap (turn_in job first) (set_begins job.targets first (ltb-true first (length job.targets) is))
     by false is = ap (turn_in job first) (no_set job.targets first (ltb-false first (length job.targets) is))
 
-no_alert : (b : Bool) (first place : ℕ) → cond b (Some ToCall) None ≡ Some (ToAlert first place) → ⊥
+no_alert : (b : Bool) (first place : ℕ) → cond b (Some ToOemAction) None ≡ Some (ToAlert first place) → ⊥
 no_alert true first place is = cc is
 no_alert false first place is = cc is
 
@@ -109,9 +109,9 @@ module _ (job : Parts) (result : Bool) where
   abbrev from : Turn → Option Turn
   from (ToAct act) = turn_from job 0
   from (ToAlert first place) = turn_or_next job first (first_tried Any result (place + 1) (drop (place + 1) (stops_at job.targets first)))
-  from ToCall = None
+  from ToOemAction = None
 
   pub turn_continues : (stage : Stage) (turn : Turn) → turn_at job stage ≡ Some turn → turn_at job (stage_after job turn result stage) ≡ from turn
   turn_continues stage (ToAct act) is = starts job 0
   turn_continues stage (ToAlert first place) is = behind_alert_of stage first place is
-  turn_continues stage ToCall is = refl
+  turn_continues stage ToOemAction is = refl

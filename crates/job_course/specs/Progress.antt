@@ -9,11 +9,11 @@ use Rattle.job_course.specs.declared.counts.Counts.{Counts}
 use Rattle.job_course.specs.declared.counts.Counts.TheVariants.{Second, Ack, Heard}
 use Rattle.job_course.specs.declared.part.Alerting.{Alerting as Alert}
 use Rattle.job_course.specs.declared.part.Part.{Part}
-use Rattle.job_course.specs.declared.part.Part.TheVariants.{Acting, Alerting, Calling}
+use Rattle.job_course.specs.declared.part.Part.TheVariants.{Acting, Alerting, OemAction}
 use Rattle.job_course.specs.declared.progress.Progress.{Progress}
 use Rattle.job_course.specs.declared.progress.Progress.TheVariants.{GoesOn, Ended}
 use Rattle.job_course.specs.declared.turn.Turn.{Turn}
-use Rattle.job_course.specs.declared.turn.Turn.TheVariants.{ToAct, ToAlert, ToCall}
+use Rattle.job_course.specs.declared.turn.Turn.TheVariants.{ToAct, ToAlert, ToOemAction}
 use Rattle.job_course.specs.Counting.{same_ack}
 use Rattle.job_course.specs.Undertaking.{target_at}
 use Rattle.job_course.specs.Running.{Running, IsTurn}
@@ -27,7 +27,7 @@ abbrev pub part_begun : Parts → ℕ → ℕ → Turn → Part
 part_begun job sequence stamp (ToAct act) = Acting act
 part_begun job sequence stamp (ToAlert first place) =
     Alerting (record { first = first; place = place; sequence = sequence; stamp = stamp; attempt = attempt_of (target_at job.targets first place).to })
-part_begun job sequence stamp ToCall = Calling
+part_begun job sequence stamp ToOemAction = OemAction
 
 -- one second more for an alert, whose seconds count from its first outcome on; an acknowledgement; an outcome
 abbrev pub attempt_after : Counts → PetAck → Counted → Counted

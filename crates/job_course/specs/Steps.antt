@@ -10,7 +10,7 @@ use Rattle.pef_match.specs.declared.target.Target.{Target}
 use Rattle.job_course.specs.declared.own.Own.{Own}
 use Rattle.job_course.specs.declared.part.Alerting.{Alerting as Alert}
 use Rattle.job_course.specs.declared.part.Part.{Part}
-use Rattle.job_course.specs.declared.part.Part.TheVariants.{Acting, Alerting, Calling}
+use Rattle.job_course.specs.declared.part.Part.TheVariants.{Acting, Alerting, OemAction}
 use Rattle.job_course.specs.declared.work.Work.{Work}
 use Rattle.job_course.specs.Undertaking.{target_at}
 
@@ -33,4 +33,4 @@ abbrev pub part_step : Own → Work → Part → Option Step
 part_step own work (Acting act) = Some (Act act (id_of work.job.event))
 part_step own work (Alerting alert) =
     if is_due alert.attempt then Some (trap_step own work alert (target_at work.job.targets alert.first alert.place)) else None
-part_step own work Calling = Some (Act Oem (id_of work.job.event))
+part_step own work OemAction = Some (Act Oem (id_of work.job.event))

@@ -4,7 +4,7 @@ use Rattle.policy_walk.specs.First.{first_tried}
 use Rattle.policy_walk.specs.Tried.{Any}
 use Rattle.pef_match.specs.Parts.{Parts}
 use Rattle.job_course.specs.declared.part.Part.{Part}
-use Rattle.job_course.specs.declared.part.Part.TheVariants.{Acting, Alerting, Calling}
+use Rattle.job_course.specs.declared.part.Part.TheVariants.{Acting, Alerting, OemAction}
 use Rattle.job_course.specs.declared.turn.Turn.{Turn}
 use Rattle.job_course.specs.declared.turn.Turn.TheVariants.{ToAlert}
 use Rattle.job_course.specs.Undertaking.{set_at, stops_at, first_stage, turn_in, turn_at}
@@ -21,7 +21,7 @@ abbrev pub turn_behind : Parts → Part → Bool → Option Turn
 turn_behind job (Acting act) result = turn_from job 0
 turn_behind job (Alerting alert) result =
     turn_or_next job alert.first (first_tried Any result (alert.place + 1) (drop (alert.place + 1) (stops_at job.targets alert.first)))
-turn_behind job Calling result = None
+turn_behind job OemAction result = None
 
 abbrev pub first_turn : Parts → Option Turn
 first_turn job = turn_at job (first_stage job.act)

@@ -13,7 +13,7 @@ use Rattle.pef_match.specs.declared.target.Target.{Target}
 use Rattle.pef_match.specs.Parts.{Parts}
 use Rattle.job_course.specs.declared.counts.Counts.{Counts}
 use Rattle.job_course.specs.declared.turn.Turn.{Turn}
-use Rattle.job_course.specs.declared.turn.Turn.TheVariants.{ToAct, ToAlert, ToCall}
+use Rattle.job_course.specs.declared.turn.Turn.TheVariants.{ToAct, ToAlert, ToOemAction}
 use Rattle.job_course.specs.Counting.{counted, outcome_in}
 
 -- The job of the record of this number in the log, counted from 1, and the GUID in force, as they were when it began; how many alerts the
@@ -50,7 +50,7 @@ first_stage (Some act) = First act
 -- an alert of this set, or behind the last set the OEM action
 abbrev pub turn_in : Parts → ℕ → Option ℕ → Option Turn
 turn_in job first (Some place) = Some (ToAlert first place)
-turn_in job first None = if job.oem then Some ToCall else None
+turn_in job first None = if job.oem then Some ToOemAction else None
 
 -- whose turn it is, and none where the undertaking is over
 abbrev pub turn_at : Parts → Stage → Option Turn
@@ -70,7 +70,7 @@ results_in stage = []
 abbrev pub stage_after : Parts → Turn → Bool → Stage → Stage
 stage_after job (ToAct act) result stage = InSet 0 []
 stage_after job (ToAlert first place) result stage = behind_alert job.targets first (results_in stage ++ result ∷ [])
-stage_after job ToCall result stage = Finished
+stage_after job ToOemAction result stage = Finished
 
 -- the target of a turn; there is one, so that what stands here else makes no difference
 abbrev pub target_at : List Target → ℕ → ℕ → Target
@@ -95,7 +95,7 @@ alert_at job sequence first place since = counted (target_at job.targets first p
 abbrev pub result_of : Parts → ℕ → Turn → List Counts → Option Bool
 result_of job sequence (ToAct act) since = outcome_in since
 result_of job sequence (ToAlert first place) since = verdict (alert_at job sequence first place since)
-result_of job sequence ToCall since = outcome_in since
+result_of job sequence ToOemAction since = outcome_in since
 
 -- What counts is cut into parts, one behind the other: how far they came, how many alerts are over, how the latest part that is over ended,
 -- and what counts for the open part.

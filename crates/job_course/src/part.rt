@@ -10,7 +10,7 @@ pub enum Part {
     Acting(Act),
     Alerting(Alerting),
     /// The OEM action.
-    Calling,
+    OemAction,
 }
 
 /// An alert that goes on.

@@ -56,7 +56,7 @@ impl Running {
                 stamp,
                 attempt: Attempt::start(&target_of(&work.job, first, place).to),
             }),
-            Turn::ToCall => Part::Calling,
+            Turn::ToOemAction => Part::OemAction,
         };
         Running { work, part }
     }
@@ -91,7 +91,7 @@ impl Running {
         match &self.part {
             Part::Acting(kind) => Some(Step::Act { kind: *kind, id }),
             Part::Alerting(alert) => alert_step(own, &self.work, alert),
-            Part::Calling => Some(Step::Act { kind: Act::Oem, id }),
+            Part::OemAction => Some(Step::Act { kind: Act::Oem, id }),
         }
     }
 
@@ -121,7 +121,7 @@ impl Running {
                 }),
             },
             Part::Alerting(alert) => alert_after(work, alert, counts),
-            Part::Calling => match counts {
+            Part::OemAction => match counts {
                 Counts::Heard(told) => Progress::Ended {
                     work,
                     turn: None,
@@ -129,7 +129,7 @@ impl Running {
                 },
                 _ => Progress::GoesOn(Running {
                     work,
-                    part: Part::Calling,
+                    part: Part::OemAction,
                 }),
             },
         }

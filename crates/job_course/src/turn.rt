@@ -11,5 +11,5 @@ pub enum Turn {
     /// counted from 0.
     ToAlert { first: usize, place: usize },
     /// The OEM action.
-    ToCall,
+    ToOemAction,
 }

@@ -32,7 +32,7 @@ pub(crate) fn turn_from(job: &Job, first: usize) -> Option<Turn>
     if first < job.targets().len() {
         Some(Turn::ToAlert { first, place: 0 })
     } else if job.oem() {
-        Some(Turn::ToCall)
+        Some(Turn::ToOemAction)
     } else {
         None
     }

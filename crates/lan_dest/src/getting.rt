@@ -3,7 +3,7 @@ ghost use Rattle.std.specs.Prelude.{◌≡◌, ◌≤◌, [], ◌∷◌, ◌++�
 ghost use Rattle.lan_dest.specs.Kept.{kept};
 ghost use Rattle.lan_dest.specs.Rows.{get_reply};
 
-use crate::code::{DONE, INVALID_FIELD, NOT_SUPPORTED, OUT_OF_RANGE};
+use crate::code::{DONE, FIELD, NO_PARAMETER, SELECTOR};
 use crate::lan::{DESTINATIONS, Lan, is_channel};
 use board_core::Octets;
 
@@ -17,10 +17,10 @@ impl Lan {
         ensures { result ≡ get_reply (kept self.now) channel parameter set revision_only }
     {
         if !is_channel(channel) {
-            return reply_of(&[INVALID_FIELD], &[]);
+            return reply_of(&[FIELD], &[]);
         }
         if parameter < 16 || parameter > 19 {
-            return reply_of(&[NOT_SUPPORTED], &[]);
+            return reply_of(&[NO_PARAMETER], &[]);
         }
         if revision_only {
             return reply_of(&[DONE, REVISION], &[]);
@@ -29,7 +29,7 @@ impl Lan {
         match parameter {
             16 => reply_of(&[DONE, REVISION], &self.community(channel)),
             17 => reply_of(&[DONE, REVISION], &[DESTINATIONS - 1]),
-            _ if number >= DESTINATIONS => reply_of(&[OUT_OF_RANGE], &[]),
+            _ if number >= DESTINATIONS => reply_of(&[SELECTOR], &[]),
             18 => reply_of(&[DONE, REVISION, number], &self.kind(channel, number)),
             _ => reply_of(&[DONE, REVISION, number], &self.address(channel, number)),
         }

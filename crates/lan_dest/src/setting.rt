@@ -3,7 +3,7 @@ ghost use Rattle.std.specs.Prelude.{◌≡◌, true};
 ghost use Rattle.lan_dest.specs.Parameters.{is_channel};
 ghost use Rattle.lan_dest.specs.Rows.{Sets};
 
-use crate::code::{DONE, INVALID_FIELD, LENGTH, NOT_SUPPORTED, OUT_OF_RANGE, READ_ONLY};
+use crate::code::{DONE, FIELD, LENGTH, NO_PARAMETER, READ_ONLY, SELECTOR};
 use crate::lan::{DESTINATIONS, Lan, is_channel};
 
 impl Lan {
@@ -13,14 +13,14 @@ impl Lan {
         ensures { Sets channel parameter payload.now self.old self.new result }
     {
         if !is_channel(channel) {
-            return INVALID_FIELD;
+            return FIELD;
         }
         match parameter {
             16 => self.set_community(channel, payload),
             17 => READ_ONLY,
             18 => self.set_kind(channel, payload),
             19 => self.set_address(channel, payload),
-            _ => NOT_SUPPORTED,
+            _ => NO_PARAMETER,
         }
     }
 
@@ -46,7 +46,7 @@ impl Lan {
         }
         let number = payload[0] % 16;
         if number >= DESTINATIONS {
-            return OUT_OF_RANGE;
+            return SELECTOR;
         }
         let mut octets = [0; 3];
         octets.copy_from_slice(&payload[1..]);
@@ -63,10 +63,10 @@ impl Lan {
         }
         let number = payload[0] % 16;
         if number >= DESTINATIONS {
-            return OUT_OF_RANGE;
+            return SELECTOR;
         }
         if payload[1] / 16 != 0 {
-            return INVALID_FIELD;
+            return FIELD;
         }
         let mut octets = [0; 12];
         octets.copy_from_slice(&payload[1..]);

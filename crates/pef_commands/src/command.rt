@@ -10,12 +10,12 @@ pub enum Command {
     Capabilities,
     /// Arm PEF Postpone Timer: 00h to FDh are seconds, FEh disables PEF for the time being, FFh reads alone (IPMI 2.0, section 30.2).
     Postpone(u8),
-    /// Set PEF Configuration Parameters: the octets behind the parameter octet are to be written (IPMI 2.0, section 30.3).
+    /// Set PEF Configuration Parameters: the parameter, 0 to 127, and the octets to be written (IPMI 2.0, section 30.3).
     SetPef {
         parameter: u8,
         payload: Bytes<64>,
     },
-    /// Get PEF Configuration Parameters: the value, or the revision alone (IPMI 2.0, section 30.4).
+    /// Get PEF Configuration Parameters: the value, or the revision alone; parameter and set 0 to 127 (IPMI 2.0, section 30.4).
     GetPef {
         parameter: u8,
         revision_only: bool,
@@ -29,7 +29,8 @@ pub enum Command {
     },
     /// Get Last Processed Event ID (IPMI 2.0, section 30.6).
     GetLast,
-    /// Alert Immediate, which sends an alert to a destination: the string that it carries, if any, by its number (IPMI 2.0, section 30.7).
+    /// Alert Immediate, which sends an alert to a destination: channel and destination 0 to 15, and
+    /// the number of the string that it carries, 0 to 127, if any (IPMI 2.0, section 30.7).
     Send {
         channel: u8,
         destination: u8,
@@ -39,13 +40,14 @@ pub enum Command {
     SendStatus,
     /// Alert Immediate, which clears that status (IPMI 2.0, section 30.7).
     SendClear,
-    /// Set LAN Configuration Parameters: the octets behind the parameter octet are to be written (IPMI 2.0, section 23.1).
+    /// Set LAN Configuration Parameters: channel 0 to 15, parameter 0 to 255, and the octets to be written (IPMI 2.0, section 23.1).
     SetLan {
         channel: u8,
         parameter: u8,
         payload: Bytes<64>,
     },
-    /// Get LAN Configuration Parameters: the value, or the revision alone; the block has no effect (IPMI 2.0, section 23.2).
+    /// Get LAN Configuration Parameters: the value, or the revision alone; channel and set 0 to 15, parameter 0 to 255; the block has no
+    /// effect (IPMI 2.0, section 23.2).
     GetLan {
         channel: u8,
         parameter: u8,

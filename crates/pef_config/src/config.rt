@@ -96,8 +96,8 @@ impl Config {
         self.set(SET_IN_PROGRESS, &[0]);
     }
 
-    /// The reply to a read of a parameter, from the completion code on: its revision, unless that alone is asked for the
-    /// selector of an entry, and the value. The selector counts by its bits 6:0; the block is that of a string.
+    /// The reply to a read of a parameter, from the completion code on: the revision, and unless that alone is asked for, the selector of
+    /// a table's entry and the value. The selector counts by its bits 6:0; the block is that of a string.
     pub fn get(&self, parameter: u8, revision_only: bool, set: u8, block: u8) -> Octets
         ensures { result ≡ get_reply our_sizes (tables self.now) parameter revision_only set block }
     {

@@ -15,10 +15,10 @@ use Rattle.board_core.specs.declared.step.Act.{Act}
 use Rattle.job_course.specs.declared.counts.Counts.{Counts}
 use Rattle.job_course.specs.declared.own.Own.{Own}
 use Rattle.job_course.specs.declared.part.Part.{Part}
-use Rattle.job_course.specs.declared.part.Part.TheVariants.{Acting, Alerting, Calling}
+use Rattle.job_course.specs.declared.part.Part.TheVariants.{Acting, Alerting, OemAction}
 use Rattle.job_course.specs.declared.turn.Turn.{Turn}
 use Rattle.job_course.specs.declared.work.Work.{Work}
-use Rattle.job_course.specs.declared.turn.Turn.TheVariants.{ToAct, ToAlert, ToCall}
+use Rattle.job_course.specs.declared.turn.Turn.TheVariants.{ToAct, ToAlert, ToOemAction}
 use Rattle.job_course.specs.Steps.{is_due, trap_step, part_step}
 use Rattle.job_course.specs.Undertaking.{Undertaking, is_running, turn_of, cut_of, target_at}
 use Rattle.job_course.specs.Running.{Running, IsOpenPart}
@@ -175,13 +175,13 @@ mark_within c Z H shows = subst (λ v. v.now.mark ≤ length v.records) (sym sho
 -- a part of a job has 18 steps before it at most
 part_is_small : (j : Parts) (part : Part) → length j.targets ≤ 16 → IsOpenPart j.targets part → part_left j part ≤ 18
 part_is_small j (Acting act) few is_open = omega (arith, few, one_at_most j.oem)
-part_is_small j Calling few is_open = omega arith
+part_is_small j OemAction few is_open = omega arith
 part_is_small j (Alerting alert) few is_open = omega (arith, few, one_at_most j.oem, is_open.one_due)
 
 -- that of an alert at once has one
 alert_is_small : (target : Target) (part : Part) → IsOpenPart (target ∷ []) part → ((act : Act) → part ≡ Acting act → ⊥) → part_left (at_once target) part ≤ 1
 alert_is_small target (Acting act) is_open no_act = absurd (no_act act refl)
-alert_is_small target Calling is_open no_act = omega arith
+alert_is_small target OemAction is_open no_act = omega arith
 alert_is_small target (Alerting alert) is_open no_act = omega (arith, is_open.one_due)
 
 -- what runs is the latest undertaking
@@ -215,7 +215,7 @@ pub record FewOf (r : Running) (mark records : ℕ) : Type 0 where
 -- an alert at once that waits has none left
 waiting : (own : Own) (work : Work) (target : Target) (part : Part) → work.job ≡ at_once target → part_step own work part ≡ None → part_left (at_once target) part ≡ 0
 waiting own work target (Acting act) job_is none = absurd (cc none)
-waiting own work target Calling job_is none = absurd (cc none)
+waiting own work target OemAction job_is none = absurd (cc none)
 waiting own work target (Alerting alert) job_is none = by (is_due alert.attempt) refl none
   where
     by : (b : Bool) → is_due alert.attempt ≡ b → cond b (Some (trap_step own work alert (target_at work.job.targets alert.first alert.place))) None ≡ None → part_left (at_once target) (Alerting alert) ≡ 0
@@ -242,7 +242,7 @@ module _ (Z : List ℕ) (past : List Deed) (r : Running) (is_open : IsOpenPart r
           by : (turn : Turn) → turn_of u ≡ Some turn → r.part ≡ part_in (ticks past) u (cut_of u) turn → ⊥
           by (ToAct other) its part = let first = (act_before_all u other its).1 in cc (first, none)
           by (ToAlert first place) its part = cc (part, is_act)
-          by ToCall its part = cc (part, is_act)
+          by ToOemAction its part = cc (part, is_act)
 
       by : BeganFor Z past u ⊎ BeganAtOnce past u → FewOf r mark records
       by (inl b) =

@@ -18,10 +18,10 @@ use Rattle.pef_match.proofs.Sets.{all_within}
 use Rattle.board_core.specs.declared.step.Step.{Step}
 use Rattle.job_course.specs.declared.counts.Counts.TheVariants.{Heard}
 use Rattle.job_course.specs.declared.part.Part.{Part}
-use Rattle.job_course.specs.declared.part.Part.TheVariants.{Acting, Alerting, Calling}
+use Rattle.job_course.specs.declared.part.Part.TheVariants.{Acting, Alerting, OemAction}
 use Rattle.job_course.specs.declared.own.Own.{Own}
 use Rattle.job_course.specs.declared.turn.Turn.{Turn}
-use Rattle.job_course.specs.declared.turn.Turn.TheVariants.{ToAct, ToAlert, ToCall}
+use Rattle.job_course.specs.declared.turn.Turn.TheVariants.{ToAct, ToAlert, ToOemAction}
 use Rattle.job_course.specs.declared.work.Work.{Work}
 use Rattle.job_course.specs.Undertaking.{one_set, set_at, stops_at, target_at, first_stage, turn_in, turn_at}
 use Rattle.job_course.specs.Running.{Running, IsOpenPart, MayCount}
@@ -71,7 +71,7 @@ module _ (job : Parts) where
   calls_left : (first : ℕ) → turn_left job (turn_in job first None) ≤ oem_left job
   calls_left first = by job.oem
     where
-      by : (b : Bool) → turn_left job (cond b (Some ToCall) None) ≤ cond b 1 0
+      by : (b : Bool) → turn_left job (cond b (Some ToOemAction) None) ≤ cond b 1 0
       by true = omega arith
       by false = omega arith
 
@@ -95,13 +95,13 @@ module _ (job : Parts) where
   -- behind a part whose step is due
   ends_with_less : (part : Part) (told : Told) (result : Bool) → IsOpenPart job.targets part → MayCount (Heard told) part → turn_left job (turn_behind job part result) < part_left job part
   ends_with_less (Acting act) told result is_open due = omega (arith, from_left 0)
-  ends_with_less Calling told result is_open due = omega arith
+  ends_with_less OemAction told result is_open due = omega arith
   ends_with_less (Alerting alert) told result is_open due = omega (arith, due, behind_left alert.first alert.place result is_open.first is_open.within)
 
   -- a part whose transmission was due goes on
   goes_on_with_less : (part : Part) (told : Told) → MayCount (Heard told) part → result_after (Heard told) job.event part ≡ None → part_left job (part_after (Heard told) job.event part) < part_left job part
   goes_on_with_less (Acting act) told due none = absurd (cc none)
-  goes_on_with_less Calling told due none = absurd (cc none)
+  goes_on_with_less OemAction told due none = absurd (cc none)
   goes_on_with_less (Alerting alert) told due none = omega (arith, due)
 
 -- An outcome leaves fewer steps.
@@ -116,7 +116,7 @@ progress_is_less r told is_open due = by (result_after (Heard told) r.work.job.e
 -- a part that begins has the steps of its turn before it
 part_begun_left : (job : Parts) (sequence stamp : ℕ) (turn : Turn) → part_left job (part_begun job sequence stamp turn) ≡ turn_left job (Some turn)
 part_begun_left job sequence stamp (ToAct act) = refl
-part_begun_left job sequence stamp ToCall = refl
+part_begun_left job sequence stamp ToOemAction = refl
 part_begun_left job sequence stamp (ToAlert first place) =
     ap (λ k. 1 + min (target_at job.targets first place).to.retries k - 0 + (length job.targets - (first + place + 1) + oem_left job)) (zero-div (target_at job.targets first place).to.wait)
     ∙ none_waits (target_at job.targets first place).to.retries (length job.targets - (first + place + 1) + oem_left job)
@@ -213,7 +213,7 @@ none_due own (Some r) is some = cc is
 
 part_hears : (own : Own) (told : Told) (work : Work) (part : Part) → IsSome (part_step own work part) → MayCount (Heard told) part
 part_hears own told work (Acting act) some = tt
-part_hears own told work Calling some = tt
+part_hears own told work OemAction some = tt
 part_hears own told work (Alerting alert) some = by (is_due alert.attempt) refl some
   where
     by : (b : Bool) → is_due alert.attempt ≡ b → IsSome (cond b (Some (trap_step own work alert (target_at work.job.targets alert.first alert.place))) None) → IsDue alert.attempt

@@ -11,7 +11,7 @@ use Rattle.policy_walk.specs.Tried.{place_after}
 use Rattle.job_course.specs.declared.counts.Counts.{Counts}
 use Rattle.job_course.specs.declared.counts.Counts.TheVariants.{Second, Ack, Heard}
 use Rattle.job_course.specs.declared.turn.Turn.{Turn}
-use Rattle.job_course.specs.declared.turn.Turn.TheVariants.{ToAct, ToAlert, ToCall}
+use Rattle.job_course.specs.declared.turn.Turn.TheVariants.{ToAct, ToAlert, ToOemAction}
 use Rattle.job_course.specs.Undertaking.{Undertaking, Stage, First, InSet, Finished, stops_at, first_stage, set_at, results_in, turn_in, turn_at, stage_after, sequence_behind, result_of, ended_or, joined, cut_by, cut_of, turn_of, is_running}
 use Rattle.job_course.specs.Counting.{outcomes, outcome_in}
 use Rattle.pef_core.specs.declared.item.Item.{Item}
@@ -331,7 +331,7 @@ in_set_is_no_act : (j : Parts) (first : ℕ) (place : Option ℕ) (act : Act) �
 in_set_is_no_act j first (Some place) act is = cc is
 in_set_is_no_act j first None act is = by j.oem is
   where
-    by : (b : Bool) → cond b (Some ToCall) None ≡ Some (ToAct act) → ⊥
+    by : (b : Bool) → cond b (Some ToOemAction) None ≡ Some (ToAct act) → ⊥
     by true e = cc e
     by false e = cc e
 
@@ -344,7 +344,7 @@ act_is_first j Finished act is = absurd (cc is)
 -- no part leads to the act
 no_act_behind : (j : Parts) (turn : Turn) (result : Bool) (stage : Stage) (act : Act) → stage_after j turn result stage ≡ First act → ⊥
 no_act_behind j (ToAct done) result stage act is = cc is
-no_act_behind j ToCall result stage act is = cc is
+no_act_behind j ToOemAction result stage act is = cc is
 no_act_behind j (ToAlert first place) result stage act is = by (is_some (place_after (stops_at j.targets first) (results_in stage ++ result ∷ []))) is
   where
     by : (b : Bool) → cond b (InSet first (results_in stage ++ result ∷ [])) (InSet (first + length (set_at j.targets first)) []) ≡ First act → ⊥
@@ -386,7 +386,7 @@ module _ (u : Undertaking) (act : Act) where
 pub act_before_all : (u : Undertaking) (act : Act) → turn_of u ≡ Some (ToAct act) → (outcomes u.since ≡ 0) × (u.job.act ≡ Some act)
 act_before_all u act is = at_act u act u.since (act_is_first u.job (cut_of u).stage act is)
 
-pub oem_is_last : (u : Undertaking) (told : Told) → turn_of u ≡ Some ToCall → turn_of (heard_by told u) ≡ None
+pub oem_is_last : (u : Undertaking) (told : Told) → turn_of u ≡ Some ToOemAction → turn_of (heard_by told u) ≡ None
 oem_is_last u told is = ap (λ o. turn_at u.job (joined u (Heard told) (cut_of u) o).stage) is
 
 pub act_not_again : (u : Undertaking) (act : Act) → turn_of u ≡ Some (ToAct act) → turn_of (heard_by Failed u) ≡ turn_of (heard_by Done u)

@@ -14,7 +14,7 @@ use Rattle.job_course.specs.declared.counts.Counts.{Counts}
 use Rattle.job_course.specs.declared.counts.Counts.TheVariants.{Second, Ack, Heard}
 use Rattle.job_course.specs.declared.part.Part.TheVariants.{Alerting}
 use Rattle.job_course.specs.declared.turn.Turn.{Turn}
-use Rattle.job_course.specs.declared.turn.Turn.TheVariants.{ToAct, ToAlert, ToCall}
+use Rattle.job_course.specs.declared.turn.Turn.TheVariants.{ToAct, ToAlert, ToOemAction}
 use Rattle.job_course.specs.declared.work.Work.{Work}
 use Rattle.job_course.specs.Counting.{same_ack, one_acks, counted as counted_alert, all_seconds}
 use Rattle.job_course.specs.Undertaking.{Undertaking, Stage, InSet, Cut, first_stage, is_running, turn_in, turn_at, stage_after, sequence_behind, alert_at, target_at, result_of, one_if_alert, ended_or, joined, cut_of, turn_of, alerts_open, drawn_with}
@@ -198,7 +198,7 @@ module _ (u : Undertaking) where
   -- the part that is open
   part_next : (now : ℕ) (counts : Counts) (c : Cut) (turn : Turn) → part_in (now_after counts now) u (with_more counts c) turn ≡ part_after counts u.job.event (part_in now u c turn)
   part_next now counts c (ToAct act) = refl
-  part_next now counts c ToCall = refl
+  part_next now counts c ToOemAction = refl
   part_next now counts c (ToAlert first place) =
       ap (λ t. Alerting (record (alert_in now u c first place) { stamp = stamp_at t; attempt = alert_at u.job (sequence_behind (u.drawn + c.alerts)) first place (counts ∷ c.since) })) (seconds_grow now counts c.since)
       ∙ ap (λ a. Alerting (record (alert_in now u c first place) { attempt = a })) (alert_more counts c first place)
@@ -208,9 +208,9 @@ module _ (u : Undertaking) where
   result_next now (Heard told) c (ToAct act) = refl
   result_next now Second c (ToAct act) = refl
   result_next now (Ack ack) c (ToAct act) = refl
-  result_next now (Heard told) c ToCall = refl
-  result_next now Second c ToCall = refl
-  result_next now (Ack ack) c ToCall = refl
+  result_next now (Heard told) c ToOemAction = refl
+  result_next now Second c ToOemAction = refl
+  result_next now (Ack ack) c ToOemAction = refl
   result_next now counts c (ToAlert first place) = ap verdict (alert_more counts c first place)
 
   -- a part that begins
@@ -220,13 +220,13 @@ module _ (u : Undertaking) where
   part_begins : (now alerts : ℕ) (stage : Stage) (last : Option Bool) (turn : Turn)
       → part_in now u (fresh stage alerts last) turn ≡ part_begun u.job (sequence_behind (u.drawn + alerts)) (stamp_at now) turn
   part_begins now alerts stage last (ToAct act) = refl
-  part_begins now alerts stage last ToCall = refl
+  part_begins now alerts stage last ToOemAction = refl
   part_begins now alerts stage last (ToAlert first place) =
       ap (λ t. Alerting (record (alert_in now u (fresh stage alerts last) first place) { stamp = stamp_at t })) (none_off now)
 
   sequence_next : (k : ℕ) (turn : Turn) → sequence_behind (k + one_if_alert turn) ≡ sequence_after turn (sequence_behind k)
   sequence_next k (ToAct act) = ap sequence_behind (none_on k)
-  sequence_next k ToCall = ap sequence_behind (none_on k)
+  sequence_next k ToOemAction = ap sequence_behind (none_on k)
   sequence_next k (ToAlert first place) = sequence_follows k
 
   -- where a part begins, or none
@@ -244,7 +244,7 @@ module _ (u : Undertaking) where
       → turn_at u.job (stage_after u.job turn result c.stage) ≡ turn_behind u.job (part_in now u c turn) result
   turn_next now c (ToAct act) result is = turn_continues u.job result c.stage (ToAct act) is
   turn_next now c (ToAlert first place) result is = turn_continues u.job result c.stage (ToAlert first place) is
-  turn_next now c ToCall result is = turn_continues u.job result c.stage ToCall is
+  turn_next now c ToOemAction result is = turn_continues u.job result c.stage ToOemAction is
 
   -- What counts joins the open part.
   module _ (now : ℕ) (counts : Counts) (c : Cut) (turn : Turn) (is : turn_at u.job c.stage ≡ Some turn) (mark status : ℕ) where

@@ -1,6 +1,6 @@
 -- The undertakings begun in a past, and the mark: how many records at the front of the log are processed. IPMI 2.0, sections 17.3 and
 -- 17.6. Records are processed one after the other in the order of the log; a record for which nothing is to be done is processed at once.
--- Commands can move the mark, and ask for an alert at once (sections 30.6 and 30.7).
+-- Commands can move the mark, and ask for an alert at once (sections 30.5 and 30.7).
 use Rattle.std.specs.Prelude.{ℕ, ◌+◌, Bool, true, false, not, ◌&&◌, ◌==◌, List, [], ◌∷◌, drop, Option, Some, None, if◌then◌else◌}
 use Rattle.std.specs.Int.{bit_at}
 use Rattle.event_record.specs.Fields.{octet}

@@ -5,11 +5,11 @@ use Rattle.std.specs.Prelude.{ℕ, ◌+◌, ◌-◌, ◌*◌, length, Option, So
 use Rattle.lan_dest.specs.Attempts.{sends}
 use Rattle.pef_match.specs.Parts.{Parts}
 use Rattle.job_course.specs.declared.part.Part.{Part}
-use Rattle.job_course.specs.declared.part.Part.TheVariants.{Acting, Alerting, Calling}
+use Rattle.job_course.specs.declared.part.Part.TheVariants.{Acting, Alerting, OemAction}
 use Rattle.job_course.specs.declared.progress.Progress.{Progress}
 use Rattle.job_course.specs.declared.progress.Progress.TheVariants.{GoesOn, Ended}
 use Rattle.job_course.specs.declared.turn.Turn.{Turn}
-use Rattle.job_course.specs.declared.turn.Turn.TheVariants.{ToAct, ToAlert, ToCall}
+use Rattle.job_course.specs.declared.turn.Turn.TheVariants.{ToAct, ToAlert, ToOemAction}
 use Rattle.job_course.specs.Running.{Running}
 use Rattle.pef_core.specs.Course.{mark_behind}
 use Rattle.pef_core.specs.Values.{Values}
@@ -23,14 +23,14 @@ part_left job (Acting act) = 1 + (length job.targets + oem_left job)
 part_left job (Alerting alert) =
     sends alert.attempt.wait alert.attempt.retries alert.attempt.ticks - alert.attempt.outcomes
     + (length job.targets - (alert.first + alert.place + 1) + oem_left job)
-part_left job Calling = 1
+part_left job OemAction = 1
 
 -- the steps of a job from this turn on
 abbrev pub turn_left : Parts → Option Turn → ℕ
 turn_left job None = 0
 turn_left job (Some (ToAct act)) = 1 + (length job.targets + oem_left job)
 turn_left job (Some (ToAlert first place)) = 1 + (length job.targets - (first + place + 1) + oem_left job)
-turn_left job (Some ToCall) = 1
+turn_left job (Some ToOemAction) = 1
 
 abbrev pub progress_left : Progress → ℕ
 progress_left (GoesOn r) = part_left r.work.job r.part

@@ -6,9 +6,9 @@ use Rattle.pef_config.specs.Places.{Tables}
 use Rattle.job_course.specs.declared.own.Own.{Own}
 use Rattle.job_course.specs.declared.part.Alerting.{Alerting as Alert}
 use Rattle.job_course.specs.declared.part.Part.{Part}
-use Rattle.job_course.specs.declared.part.Part.TheVariants.{Acting, Alerting, Calling}
+use Rattle.job_course.specs.declared.part.Part.TheVariants.{Acting, Alerting, OemAction}
 use Rattle.job_course.specs.declared.turn.Turn.{Turn}
-use Rattle.job_course.specs.declared.turn.Turn.TheVariants.{ToAct, ToAlert, ToCall}
+use Rattle.job_course.specs.declared.turn.Turn.TheVariants.{ToAct, ToAlert, ToOemAction}
 use Rattle.job_course.specs.declared.work.Work.{Work}
 use Rattle.job_course.specs.Counting.{all_seconds}
 use Rattle.job_course.specs.Undertaking.{Undertaking, Cut, cut_of, turn_of, alert_at, sequence_behind}
@@ -58,7 +58,7 @@ alert_in now u cut first place = record {
 abbrev pub part_in : ℕ → Undertaking → Cut → Turn → Part
 part_in now u cut (ToAct act) = Acting act
 part_in now u cut (ToAlert first place) = Alerting (alert_in now u cut first place)
-part_in now u cut ToCall = Calling
+part_in now u cut ToOemAction = OemAction
 
 abbrev pub work_in : Undertaking → Work
 work_in u = record { number = u.number; job = u.job; guid = u.guid }

@@ -6,7 +6,9 @@ use crate::controller::Controller;
 use crate::item::Item;
 use crate::note::Note;
 use crate::postpone::Postpone;
-use crate::replying::{capabilities, cleared, code_alone, done_with, last_processed, timer_octet};
+use crate::replying::{
+    DONE, capabilities, cleared, code_alone, done_with, last_processed, timer_octet,
+};
 use board_core::Octets;
 use event_record::Record;
 use job_course::{Counts, Turn, Work};
@@ -14,15 +16,16 @@ use pef_commands::{Command, Request, parse};
 use pef_match::{Job, Target, target_at_once};
 use pet_body::PetAck;
 
-/// Completion codes (IPMI 2.0, table 5-2 and section 30.7).
-const DONE: u8 = 0x00;
-
+/// Completion code: something runs, so no alert can begin at once (IPMI 2.0, section 30.7).
 const BUSY: u8 = 0x81;
 
+/// Completion code: there is no string of this number (IPMI 2.0, table 5-2).
 const NO_STRING: u8 = 0xC9;
 
+/// Completion code: no record has this ID, or there is no such destination to send to (IPMI 2.0, table 5-2).
 const NO_SUCH: u8 = 0xCB;
 
+/// Completion code: not while what it changes is in use (IPMI 2.0, table 5-2).
 const NOT_NOW: u8 = 0xD5;
 
 /// The greatest number of a string.

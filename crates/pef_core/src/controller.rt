@@ -258,7 +258,7 @@ impl Controller {
         }
     }
 
-    /// What was begun goes on with this turn, or is over, where its last part ended so.
+    /// Opens the part of this turn. Without one, what was begun is over, and `last` says whether its last part succeeded.
     pub(crate) fn begin(&mut self, work: Work, turn: Option<Turn>, last: Option<bool>)
         requires { IfSome turn (λ turn. IsTurn work.job.targets turn) }
         ensures values { shown self.new ≡ record (shown self.old) { now = begins work (stamp_at self.old.ticks) turn last (shown self.old).now } }

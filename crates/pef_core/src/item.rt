@@ -12,7 +12,7 @@ use pef_engine::ScriptStep;
 pub enum Item {
     /// Sixteen octets for the log, which takes them where they are an event record (IPMI 2.0, section 32.1).
     Event([u8; 16]),
-    /// A command, which is answered (IPMI 2.0, chapters 23 and 30).
+    /// A command, which is answered (IPMI 2.0, chapters 23 and 30, section 31.9).
     Command(Request),
     /// An RMCP frame that came from this address (ASF 2.0, section 3.2; IPMI 2.0, chapter 13): a ping, an acknowledgement, or one that
     /// has no effect.

@@ -39,7 +39,7 @@ pub fn start_law()
 /// tried again.
 pub fn job_law()
     ensures one_act { (u : Undertaking) (act : Act) → turn_of u ≡ Some (Turn.ToAct act) → (outcomes u.since ≡ 0) × (u.job.act ≡ Some act) }
-    ensures oem_last { (u : Undertaking) (told : Told) → turn_of u ≡ Some Turn.ToCall → turn_of (heard_by told u) ≡ None }
+    ensures oem_last { (u : Undertaking) (told : Told) → turn_of u ≡ Some Turn.ToOemAction → turn_of (heard_by told u) ≡ None }
     ensures act_not_again { (u : Undertaking) (act : Act) → turn_of u ≡ Some (Turn.ToAct act) → turn_of (heard_by Told.Failed u) ≡ turn_of (heard_by Told.Done u) }
 {}
 

@@ -8,7 +8,7 @@ use board_core::Octets;
 use event_record::Record;
 
 /// Completion code: the command was carried out.
-const DONE: u8 = 0x00;
+pub(crate) const DONE: u8 = 0x00;
 
 /// The reply of this completion code alone.
 pub(crate) fn code_alone(code: u8) -> Octets

@@ -17,7 +17,7 @@ pub struct Summary {
     pub ticks: u32,
     /// The seconds left of the startup delay.
     pub delay: u8,
-    /// The seconds left of the postpone timer, 254 while it is disabled.
+    /// The seconds left of the postpone timer, 254 while PEF is disabled for the time being.
     pub postpone: u8,
     /// The sequence number of the next alert, 1 to 65535.
     pub sequence: u16,

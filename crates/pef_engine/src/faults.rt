@@ -13,7 +13,7 @@ pub enum MachineFault {
     /// There is no memory for it.
     #[error("there is no memory for the item")]
     Memory(AllocError),
-    /// The machine's own limit stands against it.
+    /// The machine's own limit is exceeded.
     #[error("the machine has no room for the item")]
     Full,
 }
@@ -24,8 +24,8 @@ pub enum EngineFault {
     /// The octets aren't those of a file of the machine's kind.
     #[error("the file is not formatted for this kind")]
     NotFormatted,
-    /// The gate at this place doesn't lie within the file, or no entry of 1 to 520 octets and the next gate do behind it, or the entry
-    /// is none that may come there.
+    /// The gate at this place lies beyond the file's end, or it is open and the file doesn't hold a whole entry (1 to 520 octets) and
+    /// the next gate behind it, or the entry may not come there.
     #[error("the file is corrupt at octet {at}")]
     Corrupt { at: u64 },
     /// The disk failed. The engine isn't live any more: the file has the entry in flight or not, and is to be opened again.

@@ -40,8 +40,8 @@ pub trait Machine: Sized + Drop {
     fn allows(&self, entry: &Entry<Self::Item>) -> bool
         ensures { IsTrue result ↔ (view self.now).allowed entry.now };
 
-    /// Makes the room that the item needs. `Full` exactly where the machine's own limit stands against it, but for want of
-    /// memory, which comes only to a machine that takes memory. Whatever it answers, nothing but that room has changed.
+    /// Makes the room that the item needs. `Full` exactly if the machine's own limit is exceeded, unless it is out of memory first,
+    /// which only a machine that takes memory can be. Nothing but that room changes.
     fn prepare(&mut self, item: &Self::Item) -> Result<(), MachineFault>
         ensures same { KeepsAllButReady (view self.old) (view self.new) }
         ensures ready { OnOk result ((view self.new).ready item.now) }

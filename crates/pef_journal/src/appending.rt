@@ -53,7 +53,7 @@ impl Journal {
     }
 }
 
-// Writes what stands behind the gate at a place, up to the next gate, and makes it lasting. The gate stays as it is.
+// Writes what stands behind the gate at a place, up to the next gate, and syncs. The gate stays as it is.
 fn write_behind<B: Board>(board: &mut B, place: u64, payload: &Payload) -> Result<(), DiskFailed>
     requires place { HasRoomFor (B.view board.old) (place + 1) }
     requires end { place + 1000 ≤ 2 ^ 40 }
@@ -70,7 +70,7 @@ fn write_behind<B: Board>(board: &mut B, place: u64, payload: &Payload) -> Resul
     write_synced(board, place + 1, frame.as_slice())
 }
 
-// Opens the gate at a place, and makes that lasting.
+// Opens the gate at a place, and syncs.
 fn open_gate<B: Board>(board: &mut B, place: u64) -> Result<(), DiskFailed>
     requires place { HasRoomFor (B.view board.old) place }
     requires end { place + 1000 ≤ 2 ^ 40 }

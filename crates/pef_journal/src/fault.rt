@@ -11,7 +11,8 @@ pub enum JournalFault {
     /// The octets aren't those of a file of this kind.
     #[error("the file is not formatted for this kind")]
     NotFormatted,
-    /// The gate at this place doesn't lie within the file, or no entry of 1 to 520 octets and the next gate do behind it.
+    /// The gate at this place lies beyond the file's end, or it is open and the file doesn't hold a whole entry (1 to 520 octets) and the
+    /// next gate behind it.
     #[error("the file is corrupt at octet {at}")]
     Corrupt { at: u64 },
     /// The disk failed. The journal must be opened again.

@@ -50,7 +50,7 @@ fn clear_mark<B: Board>(board: &mut B) -> Result<(), DiskFailed>
     close_mark(board)
 }
 
-// Puts 00h in place of octet 0, which may be all of the file, and makes that lasting.
+// Writes 00h to octet 0, which may be all of the file, and syncs.
 fn close_mark<B: Board>(board: &mut B) -> Result<(), DiskFailed>
     ensures written { IsTrue (B.view board.new).tells → OnOk result
         (Holds (B.view board.old).octets 0 (0 ∷ []) (B.view board.new).octets) }

@@ -12,7 +12,8 @@ use board_core::{Board, DiskFailed, Payload};
 pub enum Gate {
     /// The last entry stands before it.
     Closed,
-    /// The gate doesn't lie within the file, or no entry of 1 to 520 octets and the next gate do behind it.
+    /// The gate lies beyond the file's end, or it is open and the file doesn't hold a whole entry (1 to 520 octets) and the next gate
+    /// behind it.
     Corrupt,
     /// Behind it stands an entry of this length.
     Open(usize),

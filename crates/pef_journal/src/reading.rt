@@ -12,8 +12,9 @@ use crate::journal::Journal;
 use board_core::{Board, Payload};
 
 impl Journal {
-    /// Hands out the next entry in `out`, or answers false at the first closed gate. `Corrupt` where the gate doesn't lie within the
-    /// file, or no entry of 1 to 520 octets and the next gate do behind it, `DiskFault` only at a fault. One `len`, at most two `read_at`, and no memory is taken.
+    /// Hands out the next entry in `out`, or answers false at the first closed gate. `Corrupt` if the gate lies beyond the file's end, or
+    /// if it is open and the file doesn't hold a whole entry (1 to 520 octets) and the next gate behind it; `DiskFault` only at a fault.
+    /// It makes one call of `len` and at most two of `read_at`, and takes no memory.
     pub fn entry<B: Board>(
         &mut self,
         board: &mut B,

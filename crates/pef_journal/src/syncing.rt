@@ -6,7 +6,7 @@ ghost use Rattle.pef_journal.specs.Journal.{LeavesAsRead};
 
 use board_core::{Board, DiskFailed};
 
-/// Makes what a read gives lasting, and answers the file's length.
+/// Syncs what a read gives, and answers the file's length.
 pub fn synced_length<B: Board>(board: &mut B) -> Result<u64, DiskFailed>
     ensures length { IsTrue (B.view board.new).tells → IfOk result (λ n. n ≡ length (B.view board.old).octets) }
     ensures octets { IsTrue (B.view board.new).tells → (B.view board.new).octets ≡ (B.view board.old).octets }
@@ -24,7 +24,7 @@ pub fn synced_length<B: Board>(board: &mut B) -> Result<u64, DiskFailed>
     board.len()
 }
 
-// Makes what a read gives lasting.
+// Syncs what a read gives.
 fn sync_first<B: Board>(board: &mut B) -> Result<(), DiskFailed>
     ensures octets { IsTrue (B.view board.new).tells → (B.view board.new).octets ≡ (B.view board.old).octets }
     ensures lasting { IsTrue (B.view board.new).tells → OnOk result (Only (B.view board.new).octets (B.view board.new).images) }

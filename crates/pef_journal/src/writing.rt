@@ -6,7 +6,7 @@ ghost use Rattle.pef_journal.specs.Journal.{LeavesTorn};
 
 use board_core::{Board, DiskFailed};
 
-/// Writes octets from a place on, and makes them lasting.
+/// Writes octets from a place on, and syncs.
 pub fn write_synced<B: Board>(board: &mut B, place: u64, octets: &[u8]) -> Result<(), DiskFailed>
     requires place { HasRoomFor (B.view board.old) place }
     requires end { place + length octets.now ≤ 2 ^ 40 }

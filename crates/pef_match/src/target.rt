@@ -4,12 +4,12 @@ use board_core::{Address, Community, Text};
 use lan_dest::Destination;
 use policy_walk::Stop;
 
-/// An alert that a job is to send, for an entry of the alert policy table (IPMI 2.0, section 17.11).
+/// An alert that a job is to send: for an entry of the alert policy table, or of Alert Immediate (IPMI 2.0, sections 17.11 and 30.7).
 #[derive(Drop)]
 pub struct Target {
-    /// The policy number of the entry, 1 to 15.
+    /// The policy number of the entry, 1 to 15; 0 for Alert Immediate.
     pub policy_number: u8,
-    /// The number of the entry, from 1 on.
+    /// The number of the entry, 1 to 16; 0 for Alert Immediate.
     pub entry: u8,
     /// What the walk over the policy set knows of the entry.
     pub stop: Stop,

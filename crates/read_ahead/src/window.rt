@@ -58,7 +58,7 @@ impl Window {
         into.copy_from_slice(&self.octets[first..first + into.len()]);
     }
 
-    /// Lets all octets go.
+    /// Forgets what is kept.
     pub fn clear(&mut self)
         ensures { self.new.count ≡ 0 }
     {

@@ -80,8 +80,8 @@ pub(crate) fn pass_over<M: Scripted, S: Source>(
     }
 }
 
-// The item of the next line, which has this number and behind whose head so many items are still to come; None where the line is
-// the end. Another line is bad, and so is an end too early or an item too many.
+// The item of the next line, which is line `number` (from 1), with `left` items to come; None if it is the end. An end too early, an
+// item too many and any other line are bad.
 fn next_item<M: Scripted, S: Source>(
     reader: &mut Reader,
     source: &mut S,

@@ -2,6 +2,7 @@
 use Rattle.std.specs.Prelude.{◌≡◌, ⊤, ℕ, ◌≤◌, ◌<◌, ◌^◌, true, List, ◌∷◌, ◌++◌, length, Option, None, fold}
 use Rattle.std.specs.Int.{to_le_bytes, from_le_bytes, w16}
 use Rattle.board_core.specs.declared.step.Step.{Step}
+use Rattle.console_settings.specs.Settings.{console}
 use Rattle.pef_engine.specs.declared.entry.Entry.{Entry}
 use Rattle.pef_engine.specs.declared.entry.Entry.TheVariants.{Item as Taken, Outcome}
 use Rattle.pef_engine.specs.declared.marks.Mark.TheVariants.{Open as Opened, Close as Closed, Outcome as Told}
@@ -62,7 +63,7 @@ IsOver rows item = AddsRow rows item × (row_limit ≤ length rows)
 -- An item comes where the rule of scripts lets it come.
 abbrev pub console_rules : Rules Item
 console_rules = record {
-  kind = record { number = 2; settings = 2 };
+  kind = console;
   is_entry = λ entry. IsEntry entry;
   encode = encode;
   pending = pending;

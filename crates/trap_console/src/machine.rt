@@ -7,15 +7,10 @@ use crate::console::Console;
 use crate::entries;
 use crate::item::Item;
 use board_core::{Payload, Step};
+use console_settings::KIND;
 use pef_engine::{Entry, Machine, MachineFault};
 use pef_journal::FileKind;
 use std::alloc::{AllocError, Global};
-
-/// The kind of a console's state file.
-const KIND: FileKind = FileKind {
-    number: 2,
-    settings: 2,
-};
 
 /// A console's settings are the port for acknowledgements, the least significant octet first.
 impl Machine for Console {
