@@ -1,9 +1,9 @@
 //! Worked rows: which alerts a record gets.
-use pef_match::*;
 use board_core::Text;
 use event_record::Record;
 use lan_dest::{Lan, Ports};
 use pef_config::{Config, Initial};
+use pef_match::*;
 use std::test::Fail;
 
 const PORTS: Ports = Ports {

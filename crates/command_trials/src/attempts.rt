@@ -1,8 +1,8 @@
 //! Worked attempts, and all small ones against a slow attempt by the definition.
 ghost use Rattle.std.specs.Prelude.{◌≡◌};
 
-use lan_dest::*;
 use board_core::{Address, Community, Told};
+use lan_dest::*;
 use std::process::Abort;
 
 fn destination(acknowledged: bool, wait: u16, retries: u8) -> Destination

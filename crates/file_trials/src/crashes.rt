@@ -1,7 +1,6 @@
 // What a crash leaves at each moment of a short run, worked out by hand from the disk model.
-use board_core::MemBoard;
-use board_core::{Sent, Told};
 use crate::objects::{Do, succeeds};
+use board_core::{MemBoard, Sent, Told};
 use std::alloc::Global;
 use std::process::Abort;
 use std::test::Fail;

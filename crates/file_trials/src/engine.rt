@@ -5,8 +5,8 @@ ghost use Rattle.pef_engine.specs.Engine.{IsLive, HasPlace};
 ghost use Rattle.pef_engine.specs.Rules.{Decodes};
 ghost use Rattle.file_trials.specs.Tally.{tally_rules, tally_view, tally_agrees, tally_size, tally_entries, tally_octet};
 
-use pef_engine::*;
 use board_core::{Act, MemBoard, Payload, Step, Told};
+use pef_engine::*;
 use pef_journal::FileKind;
 use std::alloc::{AllocError, Global};
 use std::test::Fail;

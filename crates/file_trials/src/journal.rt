@@ -1,5 +1,5 @@
-use pef_journal::*;
 use board_core::{Board, MemBoard, Payload};
+use pef_journal::*;
 use std::alloc::Global;
 use std::process::Abort;
 use std::test::Fail;

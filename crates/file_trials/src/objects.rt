@@ -1,15 +1,9 @@
 // The objects of this crate, each call on its happy path and where it fails, against values worked out by hand.
-use board_core::{Board, DiskFailed};
-use board_core::Bytes;
-use board_core::{Arrival, Feed};
-use board_core::{community_of, octets_of, payload_of, text_of};
-use board_core::MemBoard;
-use board_core::MemFeed;
-use board_core::MemSink;
-use board_core::MemSource;
-use board_core::{Sink, SinkFailed};
-use board_core::{Source, SourceFailed};
-use board_core::{Act, Address, Step, Told};
+use board_core::{
+    Act, Address, Arrival, Board, Bytes, DiskFailed, Feed, MemBoard, MemFeed, MemSink, MemSource,
+    Sink, SinkFailed, Source, SourceFailed, Step, Told, community_of, octets_of, payload_of,
+    text_of,
+};
 use std::test::Fail;
 
 /// A call on a board.

@@ -3,7 +3,6 @@ ghost use Rattle.std.specs.Prelude.{OnOk};
 ghost use Rattle.pef_engine.specs.MachineView.{IsReadyFor, KeepsAllButReady};
 ghost use Rattle.trap_console.specs.View.{view_of};
 
-use trap_console::*;
 use Comes::{Close, Open, Trap};
 use board_core::{Address, Octets, Step, Told};
 use pef_engine::{Entry, Machine, MachineFault, Script, Scripted};
@@ -11,6 +10,7 @@ use pet_body::Body;
 use report_line::ReportLine;
 use std::process::Abort;
 use std::test::Fail;
+use trap_console::*;
 
 /// A fan below its lower critical threshold, with sequence number 1.
 const TRAP: [u8; 108] = [

@@ -1,10 +1,10 @@
 //! Worked rows: what comes of one item after another, and which octets are an entry.
 mod showing;
 
-use pef_core::*;
 use board_core::{Act, Step, Told};
 use event_record::LogFault;
 use pef_commands::Request;
+use pef_core::*;
 use pef_engine::{Entry, Machine, Scripted};
 use std::alloc::{AllocError, Global};
 use std::process::Abort;

@@ -2,8 +2,8 @@
 ghost use Rattle.std.specs.Prelude.{◌≡◌, Some};
 ghost use Rattle.board_core.specs.Feed.{IsArrived};
 
-use feed_run::listen;
 use board_core::{Address, Arrival, MemBoard, MemFeed, MemSink, octets_of};
+use feed_run::listen;
 use std::alloc::Global;
 use std::process::Abort;
 use trap_console::Console;

@@ -3,10 +3,10 @@ ghost use Rattle.std.specs.Prelude.{◌≤◌};
 ghost use Rattle.job_course.specs.Progress.{IsProgress};
 ghost use Rattle.pef_match.specs.Parts.{CanBeSent};
 
-use job_course::*;
 use alert_trap::Origin;
 use board_core::{Act, Address, Community, Step, Text, Told};
 use event_record::Record;
+use job_course::*;
 use lan_dest::{Destination, Ports};
 use pef_match::{Job, Target};
 use policy_walk::Stop;

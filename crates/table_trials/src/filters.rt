@@ -1,6 +1,6 @@
 //! Worked rows: which events filters match.
-use filter_table::*;
 use event_record::Record;
+use filter_table::*;
 use std::test::Fail;
 
 /// Enabled, for sensor type 04h and offset 2, any other source and any event data.

@@ -1,6 +1,6 @@
 //! Worked walks, and all small ones against a slow walk by the definition.
-use policy_walk::*;
 use policy_table::PolicyEntry;
+use policy_walk::*;
 use std::process::Abort;
 
 /// The stops of three entries of policy number 1, with policies 0, 1 and 3.

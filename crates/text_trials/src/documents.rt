@@ -1,6 +1,6 @@
-use settings_document::*;
 use report_line::{SettingsKey, SettingsRefusal};
 use script_text::SettingsFault;
+use settings_document::*;
 use toml::Value;
 
 const TEXT: &[u8] = b"system = 7\nactions = \"7\"\n";

@@ -4,8 +4,8 @@ ghost use Rattle.hex.specs.Hex.{encode_lower};
 ghost use Rattle.board_core.specs.Acts.{act_word};
 ghost use Rattle.report_line.specs.Line.{line_end, address_text};
 
-use report_line::*;
 use board_core::{Act, Address, MemSink, Octets, Sink, SinkFailed};
+use report_line::*;
 
 // The lines that the program has today, each with its contract: the checker shows that their callers need no proof of room.
 fn act_line(kind: Act, id: u16) -> ReportLine

@@ -1,7 +1,7 @@
 ghost use Rattle.board_core.specs.Causes.{IsCount};
 
-use script_text::*;
 use board_core::{Address, Source, SourceFailed};
+use script_text::*;
 
 // A text that comes a few octets at a time. The read with the number `fails` fails.
 #[derive(Drop)]

@@ -1,6 +1,6 @@
-use frame_answers::*;
 use asf_rmcp::{FrameWhy, LanMessage, Packet, lan_read, lan_write};
 use board_core::{Address, Bytes, Octets, Step};
+use frame_answers::*;
 use pet_body::PetAck;
 
 mod frames;

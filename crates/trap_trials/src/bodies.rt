@@ -1,8 +1,8 @@
 ghost use Rattle.std.specs.Prelude.{◌≡◌, Ok};
 
-use pet_body::*;
 use board_core::Text;
 use event_record::Record;
+use pet_body::*;
 use std::test::Fail;
 
 /// A fan's event, at 1000000000 seconds since 1970-01-01.

@@ -1,7 +1,7 @@
 ghost use Rattle.snmp_trap.specs.Grammar.{IsBody};
 
-use snmp_trap::*;
 use board_core::{Community, Octets};
+use snmp_trap::*;
 use std::test::*;
 
 mod refusing;

@@ -8,9 +8,9 @@ ghost use Rattle.script_run.specs.Top.{MayEnd};
 ghost use Rattle.run_trials.specs.Shelf.{shelf_rules, shelf_scripts, shelf_kind, shelf_settings, script_of_puts};
 
 use super::shelf::Shelf;
-use script_run::run;
 use board_core::{MemBoard, MemSink, MemSource};
 use pef_engine::{Engine, EngineFault};
+use script_run::run;
 use std::alloc::{AllocError, Global};
 use std::process::Abort;
 use std::test::Fail;

@@ -1,8 +1,8 @@
 // How far a script is read: a read that fails behind what the answer needs isn't made.
 use super::limit::{NEXT, OPEN_4, PUT, THREE, file_with};
 use super::shelf::Shelf;
-use script_run::run;
 use board_core::{MemBoard, MemSink, MemSource};
+use script_run::run;
 use std::test::Fail;
 
 #[test]
