@@ -61,7 +61,7 @@ module _ (of : Making) (old new : Outside) (status : ℕ) where
         calm = λ zero.
             let z = status_zero end old.written new.written old.writes new.writes (subst (Finishes old.written new.written old.writes new.writes end) zero finishes) in
             let done : end ≡ ending.Done 0 = z.0.1 ∙ ap ending.Done (subst IsInitEnd z.0.1 m.is_end) in
-            let c = m.calm done in (c.0, c.1, z.1);
+            (m.disk_same (λ is. let clash : ending.Done 0 ≡ ending.Disk = sym done ∙ is in cc clash), m.input_same (λ is. let clash : ending.Done 0 ≡ ending.Input = sym done ∙ is in cc clash), z.1);
         tells = m.run.tells;
         goes_on = m.run.goes_on;
         disk_later = m.run.disk_faults;

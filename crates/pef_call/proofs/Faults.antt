@@ -1,10 +1,16 @@
--- Which fault ends a call of `init` how.
+-- Which fault is of what, and ends a call of `init` how.
 use Rattle.std.proofs.Common.{◌≡◌, ◌≢◌, Result, Err, refl, sym, ◌∙◌, ap}
 use Rattle.report_line.specs.declared.ending.Ending.TheVariants as ending
 use Rattle.report_line.specs.declared.refusal.SettingsRefusal.{SettingsRefusal}
+use Rattle.script_text.specs.declared.settings.SettingsFault.{SettingsFault}
+use Rattle.script_text.specs.declared.settings.SettingsFault.TheVariants.{Refused, Memory as SettingsMemory}
 use Rattle.pef_call.specs.declared.init_fault.InitFault.{InitFault}
 use Rattle.pef_call.specs.declared.init_fault.InitFault.TheVariants.{Disk, Formatted, Input, Settings, Memory}
-use Rattle.pef_call.specs.Init.{fault_ending, IsInitEnd}
+use Rattle.pef_call.specs.Init.{fault_ending, settings_fault_of, IsInitEnd}
+
+pub at_refused : (fault : SettingsFault) (refusal : SettingsRefusal) → settings_fault_of fault ≡ Settings refusal → fault ≡ Refused refusal
+at_refused (Refused why) refusal e = ap Refused (cc e)
+at_refused SettingsMemory refusal e = absurd (cc e)
 
 pub at_settings : (fault : InitFault) (refusal : SettingsRefusal) → fault_ending fault ≡ ending.Settings refusal → fault ≡ Settings refusal
 at_settings (Settings why) refusal e = ap Settings (cc e)

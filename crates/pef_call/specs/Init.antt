@@ -6,6 +6,8 @@ use Rattle.pef_journal.specs.Image.{header, IsFormatted, Stands}
 use Rattle.pef_journal.specs.declared.kind.FileKind.{FileKind}
 use Rattle.script_text.specs.declared.whole.TextFault.{TextFault}
 use Rattle.script_text.specs.declared.whole.TextFault.TheVariants.{Source, Memory as TextMemory}
+use Rattle.script_text.specs.declared.settings.SettingsFault.{SettingsFault}
+use Rattle.script_text.specs.declared.settings.SettingsFault.TheVariants.{Refused, Memory as SettingsMemory}
 use Rattle.pef_call.specs.declared.init_fault.InitFault.{InitFault}
 use Rattle.pef_call.specs.declared.init_fault.InitFault.TheVariants.{Disk, Formatted, Input, Settings, Memory}
 use Rattle.report_line.specs.declared.ending.Ending.{Ending}
@@ -34,6 +36,11 @@ fault_ending Formatted = ending.Formatted
 abbrev pub fault_of : TextFault → InitFault
 fault_of Source = Input
 fault_of TextMemory = Memory
+
+-- and what a text is that gives no settings
+abbrev pub settings_fault_of : SettingsFault → InitFault
+settings_fault_of (Refused refusal) = Settings refusal
+settings_fault_of SettingsMemory = Memory
 
 -- what is to be read gives these settings, where the source tells it
 abbrev pub Gives : Making → Option (List ℕ) → List ℕ → Type 0
@@ -92,8 +99,9 @@ pub record Makes (of : Making) (old new : BoardView) (source : Option (List ℕ)
   pub refused : (refusal : SettingsRefusal) → end ≡ ending.Settings refusal → IsRefused of source refusal
   pub input : end ≡ ending.Input → Rose reads_before reads_after
   pub disk : end ≡ ending.Disk → Rose old.disk_faults new.disk_faults
-  -- where it is done no call failed
-  pub calm : end ≡ ending.Done 0 → (new.disk_faults ≡ old.disk_faults) × (reads_after ≡ reads_before)
+  -- and no other end passes over a failure of the disk or the source
+  pub disk_same : end ≢ ending.Disk → new.disk_faults ≡ old.disk_faults
+  pub input_same : end ≢ ending.Input → reads_after ≡ reads_before
   pub run : IsFileRun old new
   pub later : reads_before ≤ reads_after
 

@@ -1,3 +1,4 @@
+pub mod Forms
 pub mod Words
 pub mod Init
 pub mod Kinds

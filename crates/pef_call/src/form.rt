@@ -1,4 +1,7 @@
 //! The forms of a command line.
+ghost use Rattle.std.specs.Prelude.{◌≡◌};
+ghost use Rattle.pef_call.specs.Forms.{formats_file};
+
 /// What the program is asked to do, named by its first word.
 #[derive(Clone, Copy, Debug, PartialEq, Eq)]
 pub enum Form {
@@ -22,7 +25,9 @@ pub enum Form {
 
 impl Form {
     /// Whether it formats the state file, and creates it where it is missing.
-    pub fn formats(self) -> bool {
+    pub fn formats(self) -> bool
+        ensures { result ≡ formats_file self }
+    {
         matches!(self, Form::Init | Form::InitConsole)
     }
 }

@@ -1,11 +1,11 @@
 //! Why a state file isn't formatted.
 ghost use Rattle.std.specs.Prelude.{◌≡◌};
 ghost use Rattle.pef_call.specs.declared.init_fault.InitFault.TheVariants.{Disk};
-ghost use Rattle.pef_call.specs.Init.{fault_ending, fault_of};
+ghost use Rattle.pef_call.specs.Init.{fault_ending, fault_of, settings_fault_of};
 
 use board_core::DiskFailed;
 use report_line::{Ending, SettingsRefusal};
-use script_text::TextFault;
+use script_text::{SettingsFault, TextFault};
 use thiserror::Error;
 
 /// What keeps `init` from making the file.
@@ -58,6 +58,17 @@ impl From<TextFault> for InitFault {
         match fault {
             TextFault::Source => InitFault::Input,
             TextFault::Memory => InitFault::Memory,
+        }
+    }
+}
+
+impl From<SettingsFault> for InitFault {
+    ghost from_gives = { λ settings fault. fault ≡ settings_fault_of settings };
+
+    fn from(fault: SettingsFault) -> InitFault {
+        match fault {
+            SettingsFault::Refused(refusal) => InitFault::Settings(refusal),
+            SettingsFault::Memory => InitFault::Memory,
         }
     }
 }

@@ -11,7 +11,7 @@ use crate::init_fault::InitFault;
 use board_core::{Board, Sink, Source};
 use pef_journal::{FileKind, format, is_formatted};
 use report_line::{Ending, SettingsRefusal, finish};
-use script_text::{SettingsFault, SettingsOctets, SettingsText, read_text};
+use script_text::{SettingsOctets, SettingsText, read_text};
 use std::alloc::Global;
 
 /// Formats the board's file with the settings that the source gives, and answers the status. A file that is formatted as one of
@@ -62,7 +62,8 @@ fn make<T: SettingsText, B: Board, S: Source>(
     ensures refused { (refusal : SettingsRefusal) → IsErrOf result (InitFault.Settings refusal) → IsRefused (making kinds.now T.file_kind T.settings_of) (S.left source.old) refusal }
     ensures input { IsErrOf result InitFault.Input → Rose (S.faults source.old) (S.faults source.new) }
     ensures disk { IsErrOf result InitFault.Disk → Rose (B.view board.old).disk_faults (B.view board.new).disk_faults }
-    ensures calm { OnOk result (((B.view board.new).disk_faults ≡ (B.view board.old).disk_faults) × (S.faults source.new ≡ S.faults source.old)) }
+    ensures disk_same { (IsErrOf result InitFault.Disk → ⊥) → (B.view board.new).disk_faults ≡ (B.view board.old).disk_faults }
+    ensures input_same { (IsErrOf result InitFault.Input → ⊥) → S.faults source.new ≡ S.faults source.old }
     ensures run { IsFileRun (B.view board.old) (B.view board.new) }
     ensures later { S.faults source.old ≤ S.faults source.new }
 {
@@ -83,27 +84,12 @@ fn settings_in<T: SettingsText, S: Source>(
     ensures fits { IfOk result (HasSettingsLength T.file_kind) }
     ensures refused { (refusal : SettingsRefusal) → IsErrOf result (InitFault.Settings refusal) → (text : List ℕ) → S.left source.old ≡ Some text → T.settings_of text ≡ Err refusal }
     ensures input { IsErrOf result InitFault.Input → Rose (S.faults source.old) (S.faults source.new) }
+    ensures input_same { (IsErrOf result InitFault.Input → ⊥) → S.faults source.new ≡ S.faults source.old }
     ensures others { IfErr result (λ fault. (fault ≢ InitFault.Disk) × (fault ≢ InitFault.Formatted)) }
-    ensures calm { OnOk result (S.faults source.new ≡ S.faults source.old) }
     ensures later { S.faults source.old ≤ S.faults source.new }
 {
-    match read_text(alloc, source) {
-        Ok(Some(text)) => settings_of::<T>(alloc, text.as_slice()),
-        Ok(None) => Err(InitFault::Settings(SettingsRefusal::Long)),
-        Err(fault) => Err(fault.into()),
-    }
-}
-
-// The settings that a text gives.
-fn settings_of<T: SettingsText>(alloc: Global, text: &[u8]) -> Result<SettingsOctets, InitFault>
-    ensures given { IfOk result (λ settings. T.settings_of text.now ≡ Ok settings) }
-    ensures fits { IfOk result (HasSettingsLength T.file_kind) }
-    ensures refused { (refusal : SettingsRefusal) → IsErrOf result (InitFault.Settings refusal) → T.settings_of text.now ≡ Err refusal }
-    ensures others { IfErr result (λ fault. (fault ≢ InitFault.Disk) × (fault ≢ InitFault.Formatted) × (fault ≢ InitFault.Input)) }
-{
-    match T::read(alloc, text) {
-        Ok(settings) => Ok(settings),
-        Err(SettingsFault::Refused(refusal)) => Err(InitFault::Settings(refusal)),
-        Err(SettingsFault::Memory) => Err(InitFault::Memory),
-    }
+    let Some(text) = read_text(alloc, source)? else {
+        return Err(InitFault::Settings(SettingsRefusal::Long));
+    };
+    Ok(T::read(alloc, text.as_slice())?)
 }

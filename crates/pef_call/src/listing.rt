@@ -3,15 +3,15 @@ ghost use Rattle.std.specs.Prelude.{◌≡◌, ◌≢◌, ◌≤◌, ℕ, List, 
 ghost use Rattle.board_core.specs.Causes.{Rose};
 ghost use Rattle.pef_engine.specs.declared.entry.Entry.{Entry};
 ghost use Rattle.report_line.specs.declared.ending.Ending.TheVariants.{Done, Output};
-ghost use Rattle.script_run.specs.Performing.{open_ending};
 ghost use Rattle.trap_console.specs.Heard.{rows_of};
 ghost use Rattle.trap_console.specs.Listing.{listed};
 ghost use Rattle.trap_console.specs.View.{ShowsConsole};
 ghost use Rattle.pef_call.specs.Listing.{IsShownEnd, Lists, ledger, Shows, Wrote, WrotePart, sourceless};
 
 use board_core::{Board, Sink};
-use pef_engine::{Engine, EngineFault};
+use pef_engine::Engine;
 use report_line::{Ending, finish};
+use script_run::ending_at_opening;
 use std::alloc::Global;
 use trap_console::{Console, Item, list as list_rows};
 
@@ -20,12 +20,12 @@ pub fn list<B: Board, K: Sink>(alloc: Global, board: &mut B, out: &mut K) -> u8
     ensures { Lists ledger (sourceless (B.view board.old) (K.written out.old) (K.faults out.old))
         (sourceless (B.view board.new) (K.written out.new) (K.faults out.new)) result }
 {
-    let end = show(alloc, board, out);
+    let end = list_file(alloc, board, out);
     finish(out, end)
 }
 
 // Shows the rows, and says how the call ends.
-fn show<B: Board, K: Sink>(alloc: Global, board: &mut B, out: &mut K) -> Ending
+fn list_file<B: Board, K: Sink>(alloc: Global, board: &mut B, out: &mut K) -> Ending
     ensures { Shows ledger (sourceless (B.view board.old) (K.written out.old) (K.faults out.old))
         (sourceless (B.view board.new) (K.written out.new) (K.faults out.new)) result }
 {
@@ -49,18 +49,5 @@ fn show_rows<K: Sink>(console: &Console, out: &mut K) -> Ending
     match list_rows(console, out) {
         Ok(()) => Ending::Done { count },
         Err(_) => Ending::Output,
-    }
-}
-
-/// How a call ends whose file isn't opened.
-pub(crate) fn ending_at_opening(fault: EngineFault) -> Ending
-    ensures { result ≡ open_ending fault }
-{
-    match fault {
-        EngineFault::NotFormatted => Ending::Unformatted,
-        EngineFault::Corrupt { .. } => Ending::Unformatted,
-        EngineFault::DiskFault => Ending::Disk,
-        EngineFault::Full => Ending::Full,
-        EngineFault::Memory(_) => Ending::Memory,
     }
 }

@@ -7,11 +7,11 @@ ghost use Rattle.pef_core.specs.Shown.{shown_page};
 ghost use Rattle.pef_core.specs.View.{ShowsController};
 ghost use Rattle.pef_call.specs.Listing.{IsShownEnd, Lists, controller_page, Shows, Wrote, WrotePart, sourceless};
 
-use crate::listing::ending_at_opening;
 use board_core::{Board, Sink};
 use pef_core::{Controller, Item};
 use pef_engine::Engine;
 use report_line::{Ending, finish};
+use script_run::ending_at_opening;
 use std::alloc::Global;
 
 /// Writes the page of the controller of the board's file, and answers the status. The file stays as it is.

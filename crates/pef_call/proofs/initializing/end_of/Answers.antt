@@ -17,7 +17,8 @@ returns-in-Err g c =
       refused = λ refusal is. make.refused refusal (c.in-Err.is ∙ ap Err (at_settings fault refusal (sym end ∙ is)));
       input = λ is. make.input (c.in-Err.is ∙ ap Err (at_input fault (sym end ∙ is)));
       disk = λ is. make.disk (c.in-Err.is ∙ ap Err (at_disk fault (sym end ∙ is)));
-      calm = λ done. absurd (not_done fault (sym end ∙ done));
+      disk_same = λ not. make.disk_same (λ is. not (end ∙ ap fault_ending (same_fault c.make.result fault _ c.in-Err.is is)));
+      input_same = λ not. make.input_same (λ is. not (end ∙ ap fault_ending (same_fault c.make.result fault _ c.in-Err.is is)));
       run = make.run;
       later = make.later;
     }

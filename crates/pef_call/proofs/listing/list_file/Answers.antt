@@ -1,6 +1,6 @@
 use Rattle.pef_call.specs.Listing.{ledger, sourceless}
 use Rattle.pef_call.proofs.Rows.{shows, shows_not}
-use Rattle.pef_call.proofs.listing.show.Goals as goal
+use Rattle.pef_call.proofs.listing.list_file.Goals as goal
 
 pub returns-in-Ok : goal.returns-in-Ok
 returns-in-Ok g c =
