@@ -1,6 +1,7 @@
 // Counts of faults.
-ghost use Rattle.std.specs.Prelude.{◌≡◌, ◌↔◌, ◌≤◌, Ok, IfOk, IsErr};
+ghost use Rattle.std.specs.Prelude.{◌≡◌, ◌↔◌, ◌≤◌, None, Ok, IfOk, IfErr, OnOk, IsErr};
 ghost use Rattle.board_core.specs.Causes.{HasCause, Rose, IsCount};
+ghost use Rattle.real_devices.specs.Failures.{first_of};
 
 use crate::failure::{Call, Failure};
 use std::io;
@@ -16,7 +17,8 @@ pub struct Faults {
 impl Faults {
     /// None yet.
     pub fn new() -> Faults
-        ensures { result.count ≡ 0 }
+        ensures count { result.count ≡ 0 }
+        ensures first { result.first ≡ None }
     {
         Faults {
             count: 0,
@@ -24,10 +26,11 @@ impl Faults {
         }
     }
 
-    /// One more. The count stands still at its type's end.
+    /// One more, which is kept where it is the first. The count stands still at its type's end.
     pub fn add(&mut self, failure: Failure)
         ensures rose { Rose self.old.count self.new.count }
         ensures later { self.old.count ≤ self.new.count }
+        ensures first { self.new.first ≡ first_of self.old.first failure }
     {
         self.count = self.count.saturating_add(1);
         if self.first.is_none() {
@@ -46,6 +49,8 @@ pub fn counted<T: Drop, E: Drop>(
     ensures value { IfOk answer (λ value. result ≡ Ok value) }
     ensures failed { IsErr result ↔ IsErr answer }
     ensures cause { HasCause faults.old.count faults.new.count result }
+    ensures first { IfErr answer (λ error. faults.new.first ≡ first_of faults.old.first (record { call = call; error = error })) }
+    ensures same { OnOk result (faults.new.first ≡ faults.old.first) }
 {
     match answer {
         Ok(value) => Ok(value),

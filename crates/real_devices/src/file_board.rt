@@ -60,12 +60,16 @@ impl<'a, R: Net> FileBoard<'a, R> {
     }
 
     /// The first call of the state file that failed.
-    pub fn disk_failure(&self) -> Option<Failure> {
+    pub fn disk_failure(&self) -> Option<Failure>
+        ensures { result ≡ self.now.disk.first }
+    {
         self.disk.first
     }
 
     /// The first step that could not be issued.
-    pub fn issue_failure(&self) -> Option<Failure> {
+    pub fn issue_failure(&self) -> Option<Failure>
+        ensures { result ≡ self.now.issue.first }
+    {
         self.issue.first
     }
 }
@@ -121,12 +125,9 @@ impl<'a, R: Net> Board for FileBoard<'a, R> {
             Step::Act { kind, id } => (Call::Act, self.plant.act(*kind, *id)),
             Step::Datagram { to, octets } => (Call::Send, self.sender.send(self.rt, to, octets)),
         };
-        match issued {
+        match counted(issued, call, &mut self.issue, ()) {
             Ok(()) => Told::Done,
-            Err(error) => {
-                self.issue.add(Failure { call, error });
-                Told::Failed
-            }
+            Err(()) => Told::Failed,
         }
     }
 }

@@ -38,7 +38,9 @@ impl FileSource {
     }
 
     /// The first read that failed.
-    pub fn failure(&self) -> Option<Failure> {
+    pub fn failure(&self) -> Option<Failure>
+        ensures { result ≡ self.now.faults.first }
+    {
         self.faults.first
     }
 }

@@ -1,4 +1,8 @@
 //! A file that this process alone has in use.
+ghost use Rattle.std.specs.Prelude.{◌≡◌, Err, IfErr};
+ghost use Rattle.real_devices.specs.declared.held_file.HoldFault.TheVariants.{System};
+ghost use Rattle.real_devices.specs.Holding.{lock_fault_of};
+
 use crate::file_id::FileId;
 use std::fs::{File, OpenOptions, TryLockError};
 use std::io;
@@ -45,11 +49,30 @@ impl HeldFile {
     }
 }
 
-fn hold(opened: io::Result<File>) -> Result<HeldFile, HoldFault> {
-    let file = opened.map_err(HoldFault::System)?;
-    match file.try_lock() {
-        Ok(()) => Ok(HeldFile { file }),
-        Err(TryLockError::WouldBlock) => Err(HoldFault::Held),
-        Err(TryLockError::Error(error)) => Err(HoldFault::System(error)),
+// Locks the file that was opened.
+fn hold(opened: io::Result<File>) -> Result<HeldFile, HoldFault>
+    ensures { IfErr opened (λ error. result ≡ Err (System error)) }
+{
+    let file = opened?;
+    file.try_lock()?;
+    Ok(HeldFile { file })
+}
+
+impl From<io::Error> for HoldFault {
+    ghost from_gives = { λ error fault. fault ≡ System error };
+
+    fn from(error: io::Error) -> HoldFault {
+        HoldFault::System(error)
+    }
+}
+
+impl From<TryLockError> for HoldFault {
+    ghost from_gives = { λ refused fault. fault ≡ lock_fault_of refused };
+
+    fn from(refused: TryLockError) -> HoldFault {
+        match refused {
+            TryLockError::WouldBlock => HoldFault::Held,
+            TryLockError::Error(error) => HoldFault::System(error),
+        }
     }
 }

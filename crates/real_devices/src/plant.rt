@@ -1,5 +1,5 @@
 //! The plant's actions as lines of a file.
-ghost use Rattle.std.specs.Prelude.{◌≡◌};
+ghost use Rattle.std.specs.Prelude.{◌≡◌, ◌≢◌, ◌↔◌, false, IsTrue, OnOk};
 ghost use Rattle.real_devices.specs.Plant.{action_line};
 
 use crate::file_id::FileId;
@@ -38,7 +38,9 @@ impl Plant {
     }
 
     /// Appends the action's line in one write. Where the file's last line has no end, this line begins behind one.
-    pub fn act(&mut self, kind: Act, id: u16) -> io::Result<()> {
+    pub fn act(&mut self, kind: Act, id: u16) -> io::Result<()>
+        ensures { OnOk result (self.new.cut ≡ false) }
+    {
         let line = line_of(kind, id);
         line.fits();
         append(&mut self.file, &mut self.cut, line.as_slice())
@@ -54,7 +56,14 @@ fn is_cut<R: Files<File = File>>(rt: &R, path: &str, file: &File) -> io::Result<
     }
     let mut last = [0; 1];
     fs::open(rt, path)?.read_exact_at(&mut last, length - 1)?;
-    Ok(last != *b"\n")
+    Ok(is_within_line(last[0]))
+}
+
+// True where a file whose last octet this is ends within a line.
+fn is_within_line(last: u8) -> bool
+    ensures { IsTrue result ↔ (last ≢ 10) }
+{
+    last != b'\n'
 }
 
 // The action's word, a space, the record's id in four lower-case hexadecimal digits, and 0Ah.

@@ -1,5 +1,5 @@
 // Seconds of the clock that never goes back.
-ghost use Rattle.std.specs.Prelude.{◌≡◌, ◌+◌, ◌-◌, ◌*◌, ◌^◌, ◌<◌, ◌≤◌, ◌↔◌, IsNone, IfSome};
+ghost use Rattle.std.specs.Prelude.{◌≡◌, ◌+◌, ◌-◌, ◌*◌, ◌^◌, ◌<◌, ◌≤◌, ◌↔◌, min, None, Ok, IsNone, IsSome, IfSome, IfOk};
 ghost use Rattle.std.specs.Duration.{as_nanos};
 
 use std::io;
@@ -26,7 +26,12 @@ impl Seconds {
     }
 
     /// The time until the next second ends. None where it has ended, and then it is given.
-    pub fn until_next<C: Clock>(&mut self, clock: &C) -> io::Result<Option<Duration>> {
+    pub fn until_next<C: Clock>(&mut self, clock: &C) -> io::Result<Option<Duration>>
+        ensures start { IsSome self.old.start → self.new.start ≡ self.old.start }
+        ensures given { result ≡ Ok None → self.new.given ≡ min (self.old.given + 1) (2 ^ 64 - 2) }
+        ensures same { (result ≡ Ok None → ⊥) → self.new.given ≡ self.old.given }
+        ensures left { IfOk result (λ left. IfSome left (λ time. 0 < as_nanos time)) }
+    {
         let now = Instant::now(clock)?;
         let start = self.start.unwrap_or(now);
         self.start = Some(start);
@@ -43,6 +48,7 @@ fn left_of(passed: Duration, given: u64) -> Option<Duration>
     requires few { given < 2 ^ 64 - 1 }
     ensures ended { IsNone result ↔ ((given + 1) * 1000000000 ≤ as_nanos passed) }
     ensures left { IfSome result (λ left. as_nanos left + as_nanos passed ≡ (given + 1) * 1000000000) }
+    ensures some { IfSome result (λ left. 0 < as_nanos left) }
 {
     if passed.as_secs() > given {
         return None;

@@ -1,5 +1,7 @@
 // A stream as a sink.
-ghost use Rattle.std.specs.Prelude.{◌≡◌, None};
+ghost use Rattle.std.specs.Prelude.{◌≡◌, None, OnOk};
+ghost use Rattle.std.specs.Io.KnownBytes.{Appends};
+ghost use Rattle.board_core.specs.Causes.{HasCause};
 
 use crate::failure::{Call, Failure};
 use crate::faults::{Faults, counted};
@@ -27,7 +29,9 @@ impl<W: Write + Drop> StdSink<W> {
     }
 
     /// The first write that failed.
-    pub fn failure(&self) -> Option<Failure> {
+    pub fn failure(&self) -> Option<Failure>
+        ensures { result ≡ self.now.faults.first }
+    {
         self.faults.first
     }
 }
@@ -41,7 +45,10 @@ impl<W: Write + Drop> Sink for StdSink<W> {
 
     ghost counted = { λ sink. sink.faults.counted };
 
-    fn write(&mut self, from: &[u8]) -> Result<(), SinkFailed> {
+    fn write(&mut self, from: &[u8]) -> Result<(), SinkFailed>
+        ensures whole { OnOk result (Appends (W.contents self.old.stream) (W.contents self.new.stream) from.now) }
+        ensures cause { HasCause (sink_faults self.old) (sink_faults self.new) result }
+    {
         counted(
             self.stream.write_all(from),
             Call::Write,

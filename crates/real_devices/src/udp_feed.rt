@@ -1,8 +1,9 @@
 // Datagrams that arrive, and seconds, as a feed.
-ghost use Rattle.std.specs.Prelude.{None};
+ghost use Rattle.std.specs.Prelude.{◌≡◌, ◌⊎◌, ◌↔◌, None, IsTrue};
+ghost use Rattle.real_devices.specs.Arriving.{arrival_of};
 
 use crate::failure::{Call, Failure};
-use crate::faults::Faults;
+use crate::faults::{Faults, counted};
 use crate::seconds::Seconds;
 use board_core::{Address, Arrival, Feed, Octets};
 use std::io;
@@ -44,7 +45,9 @@ impl<'a, R: Net + Clock> UdpFeed<'a, R> {
     }
 
     /// The first call that failed.
-    pub fn failure(&self) -> Option<Failure> {
+    pub fn failure(&self) -> Option<Failure>
+        ensures { result ≡ self.now.faults.first }
+    {
         self.faults.first
     }
 }
@@ -59,15 +62,21 @@ impl<'a, R: Net + Clock> Feed for UdpFeed<'a, R> {
     ghost counted = { λ feed. feed.faults.counted };
 
     fn next(&mut self) -> Arrival {
-        match wait(self.rt, &self.socket, &mut self.seconds) {
-            Ok(Some((from, octets))) => Arrival::Datagram { from, octets },
-            Ok(None) => Arrival::Tick,
-            Err(error) => {
-                let call = Call::Receive;
-                self.faults.add(Failure { call, error });
-                Arrival::Failed
-            }
+        let waited = wait(self.rt, &self.socket, &mut self.seconds);
+        match counted(waited, Call::Receive, &mut self.faults, ()) {
+            Ok(datagram) => arrival_of(datagram),
+            Err(()) => Arrival::Failed,
         }
+    }
+}
+
+// The datagram that arrived, or a second that passed without one.
+fn arrival_of(datagram: Option<(Address, Octets)>) -> Arrival
+    ensures { result ≡ arrival_of datagram }
+{
+    match datagram {
+        Some((from, octets)) => Arrival::Datagram { from, octets },
+        None => Arrival::Tick,
     }
 }
 
@@ -81,6 +90,7 @@ fn wait<C: Clock>(
         let Some(left) = seconds.until_next(clock)? else {
             return Ok(None);
         };
+        // The system would take a time of 0 for no limit. One below a microsecond is rounded up, and 0 is never left.
         socket.set_read_timeout(Some(left))?;
         let datagram = received(socket)?;
         if datagram.is_some() {
@@ -110,7 +120,10 @@ fn received(socket: &UdpSocket) -> io::Result<Option<(Address, Octets)>> {
 }
 
 // A time that ran out, a call that a signal interrupted, and a datagram sent earlier that found nobody are no failures of a receive.
-fn is_passing(kind: ErrorKind) -> bool {
+fn is_passing(kind: ErrorKind) -> bool
+    ensures { IsTrue result ↔ ((kind ≡ ErrorKind.WouldBlock) ⊎ ((kind ≡ ErrorKind.TimedOut)
+        ⊎ ((kind ≡ ErrorKind.Interrupted) ⊎ (kind ≡ ErrorKind.ConnectionRefused)))) }
+{
     matches!(
         kind,
         ErrorKind::WouldBlock

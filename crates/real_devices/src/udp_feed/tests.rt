@@ -1,6 +1,6 @@
 use super::*;
 use std::test::Fail;
-use std::time::Instant;
+use std::time::{Duration, Instant};
 
 // This port of 127.0.0.1.
 fn local(port: u16) -> Address {
@@ -22,6 +22,14 @@ fn a_feed_gives_datagrams_and_seconds(rt: HostRuntime) -> Result<(), Fail> {
     assert!(rt; matches!(feed.next(), Arrival::Tick));
     assert!(rt; start.elapsed(&rt)?.as_millis() >= 990);
     assert!(rt; feed.failure().is_none());
+    Ok(())
+}
+
+#[test]
+fn the_shortest_wait_ends(rt: HostRuntime) -> Result<(), Fail> {
+    let socket = UdpSocket::bind(&rt, SocketAddrV4::new(Ipv4Addr::LOCALHOST, 0))?;
+    socket.set_read_timeout(Some(Duration::from_nanos(1)))?;
+    assert!(rt; received(&socket)?.is_none());
     Ok(())
 }
 
