@@ -72,7 +72,10 @@ impl Controller {
                 revision_only,
                 set,
                 block,
-            } => self.get_pef(parameter, revision_only, set, block),
+            } => {
+                let reply = self.config.get(parameter, revision_only, set, block);
+                self.keep(reply);
+            }
             Command::SetLast { bmc, id } => self.set_last(bmc, id),
             Command::GetLast => {
                 let reply = self.last();
@@ -96,7 +99,10 @@ impl Controller {
                 parameter,
                 revision_only,
                 set,
-            } => self.get_lan(channel, parameter, revision_only, set),
+            } => {
+                let reply = self.lan.get(channel, parameter, set, revision_only);
+                self.keep(reply);
+            }
             Command::ClearSel => self.clear(),
             Command::ClearStatus => self.keep(cleared()),
         }
@@ -124,22 +130,6 @@ impl Controller {
     {
         let code = self.config.set(parameter, payload);
         self.finish(code);
-    }
-
-    fn get_pef(&mut self, parameter: u8, revision_only: bool, set: u8, block: u8)
-        ensures values { shown self.new ≡ with_deed (reply_deed (answer_by (shown self.old) (Ok (Command.GetPef parameter revision_only set block)))) (shown self.old) }
-        ensures script { self.new.script ≡ self.old.script }
-    {
-        let reply = self.config.get(parameter, revision_only, set, block);
-        self.keep(reply);
-    }
-
-    fn get_lan(&mut self, channel: u8, parameter: u8, revision_only: bool, set: u8)
-        ensures values { shown self.new ≡ with_deed (reply_deed (answer_by (shown self.old) (Ok (Command.GetLan channel parameter revision_only set)))) (shown self.old) }
-        ensures script { self.new.script ≡ self.old.script }
-    {
-        let reply = self.lan.get(channel, parameter, set, revision_only);
-        self.keep(reply);
     }
 
     fn set_lan(&mut self, channel: u8, parameter: u8, payload: &[u8])
