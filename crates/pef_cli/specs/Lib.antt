@@ -1,1 +1,2 @@
+pub mod NoStart
 pub mod Reading

@@ -1,8 +1,10 @@
 //! Why no work could begin.
 ghost use Rattle.std.specs.Prelude.{◌≡◌, ◌↔◌};
 ghost use Rattle.std.specs.IoError.{error_kind};
+ghost use Rattle.std.specs.declared.io.Error.{Error};
 ghost use Rattle.std.specs.declared.io.ErrorKind.TheVariants.{OutOfMemory};
 ghost use Rattle.pef_cli.specs.declared.no_start.NoStart.TheVariants.{Memory};
+ghost use Rattle.pef_cli.specs.NoStart.{status_of, line_of, reason_of};
 
 use real_devices::HoldFault;
 use std::alloc::AllocError;
@@ -10,7 +12,8 @@ use std::io;
 use std::io::ErrorKind;
 use thiserror::Error;
 
-/// Why no work could begin. Nothing was read or written then, but that `init` may have made an empty state file.
+/// Why no work could begin. Nothing was read or written then, but `init` may have made an empty state file, and each form but `show`
+/// and `list` an empty STATE.plant.
 #[derive(Clone, Copy, Debug, Error)]
 pub enum NoStart<'a> {
     /// What has this name can't be opened or read.
@@ -36,7 +39,8 @@ pub enum NoStart<'a> {
 impl<'a> NoStart<'a> {
     /// What the system's error on what has this name means.
     pub fn of(name: &'a str, error: io::Error) -> NoStart<'a>
-        ensures { result ≡ Memory ↔ error_kind error ≡ OutOfMemory }
+        ensures memory { error_kind error ≡ OutOfMemory → result ≡ Memory }
+        ensures other { (error_kind error ≡ OutOfMemory → ⊥) → result ≡ NoStart.System name.entry error }
     {
         match error.kind() {
             ErrorKind::OutOfMemory => NoStart::Memory,
@@ -46,7 +50,8 @@ impl<'a> NoStart<'a> {
 
     /// What an error on the plant's file of this state file means.
     pub fn of_plant(state: &'a str, error: io::Error) -> NoStart<'a>
-        ensures { result ≡ Memory ↔ error_kind error ≡ OutOfMemory }
+        ensures memory { error_kind error ≡ OutOfMemory → result ≡ Memory }
+        ensures other { (error_kind error ≡ OutOfMemory → ⊥) → result ≡ NoStart.Plant state.entry error }
     {
         match error.kind() {
             ErrorKind::OutOfMemory => NoStart::Memory,
@@ -55,7 +60,12 @@ impl<'a> NoStart<'a> {
     }
 
     /// What it means that the state file of this name isn't held.
-    pub fn of_state(name: &'a str, fault: HoldFault) -> NoStart<'a> {
+    pub fn of_state(name: &'a str, fault: HoldFault) -> NoStart<'a>
+        ensures held { fault ≡ HoldFault.Held → result ≡ NoStart.Held name.entry }
+        ensures memory { (error : Error) → fault ≡ HoldFault.System error → error_kind error ≡ OutOfMemory → result ≡ Memory }
+        ensures other { (error : Error) → fault ≡ HoldFault.System error → (error_kind error ≡ OutOfMemory → ⊥) →
+            result ≡ NoStart.System name.entry error }
+    {
         match fault {
             HoldFault::System(error) => NoStart::of(name, error),
             HoldFault::Held => NoStart::Held(name),
@@ -64,8 +74,7 @@ impl<'a> NoStart<'a> {
 
     /// The program's status.
     pub fn status(&self) -> u8
-        ensures memory { self.now ≡ Memory → result ≡ 10 }
-        ensures other { (self.now ≡ Memory → ⊥) → result ≡ 1 }
+        ensures { result ≡ status_of self.now }
     {
         match self {
             NoStart::Memory => 10,
@@ -74,7 +83,9 @@ impl<'a> NoStart<'a> {
     }
 
     /// The first line on standard error, by which one program tells another.
-    pub fn line(&self) -> &'static str {
+    pub fn line(&self) -> &'static str
+        ensures { result.now ≡ line_of self.now }
+    {
         match self {
             NoStart::Memory => "memory",
             _ => "cannot start",
@@ -82,7 +93,9 @@ impl<'a> NoStart<'a> {
     }
 
     /// What a person reads behind that line.
-    pub fn reason(&self) -> Option<NoStart<'a>> {
+    pub fn reason(&self) -> Option<NoStart<'a>>
+        ensures { result ≡ reason_of self.now }
+    {
         match self {
             NoStart::Memory => None,
             fault => Some(*fault),

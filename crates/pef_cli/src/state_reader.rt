@@ -1,6 +1,8 @@
 //! A state file that is read and nothing else.
-ghost use Rattle.std.specs.Prelude.{◌≡◌, Ok, IfOk};
-ghost use Rattle.board_core.specs.Causes.{HasCause, IsCount};
+ghost use Rattle.std.specs.Prelude.{◌≡◌, ◌+◌, ◌^◌, ◌≤◌, Ok, Some, length, IfErr, IfOk, IsErr, OnOk};
+ghost use Rattle.std.specs.Option.{option_or};
+ghost use Rattle.board_core.specs.Board.{TakesWrite, Issues, HasRoomFor};
+ghost use Rattle.board_core.specs.Causes.{HasCause, IsCount, Rose};
 
 use board_core::{Board, DiskFailed, Step, Told};
 use real_devices::{Call, Failure, HoldFault};
@@ -39,7 +41,9 @@ impl StateReader {
     }
 
     /// The first call of the file that failed.
-    pub fn failure(&self) -> Option<Failure> {
+    pub fn failure(&self) -> Option<Failure>
+        ensures { result ≡ self.now.failure }
+    {
         self.failure
     }
 
@@ -48,6 +52,8 @@ impl StateReader {
         ensures value { IfOk answer (λ value. result ≡ Ok value) }
         ensures cause { HasCause self.old.faults self.new.faults result }
         ensures refused { self.new.refused ≡ self.old.refused }
+        ensures failed { IfErr answer (λ error. IsErr result × (self.new.failure ≡ option_or self.old.failure (Some (record { call = call; error = error })))) }
+        ensures unfailed { OnOk answer (self.new.failure ≡ self.old.failure) }
     {
         match answer {
             Ok(value) => Ok(value),
@@ -83,7 +89,13 @@ impl Board for StateReader {
     }
 
     #[tactic(auto, using(real_devices::proofs::Silence::silent_write))]
-    fn write_at(&mut self, place: u64, from: &[u8]) -> Result<(), DiskFailed> {
+    fn write_at(&mut self, place: u64, from: &[u8]) -> Result<(), DiskFailed>
+        requires place { HasRoomFor (reader_view self.old) place }
+        requires end { place + length from.now ≤ 2 ^ 40 }
+        ensures written { TakesWrite place from.now (reader_view self.old) (reader_view self.new) result }
+        ensures cause { HasCause (reader_view self.old).disk_faults (reader_view self.new).disk_faults result }
+        ensures fails { IsErr result }
+    {
         let count = from.len();
         let refused = Err(io::Error::from(ErrorKind::PermissionDenied));
         self.counted(refused, Call::WriteAt { place, count })
@@ -96,7 +108,11 @@ impl Board for StateReader {
     }
 
     #[tactic(auto, using(real_devices::proofs::Silence::silent_issue))]
-    fn issue(&mut self, _step: &Step) -> Told {
+    fn issue(&mut self, _step: &Step) -> Told
+        ensures issued { Issues _step.now result (reader_view self.old) (reader_view self.new) }
+        ensures cause { Rose (reader_view self.old).issue_faults (reader_view self.new).issue_faults }
+        ensures fails { result ≡ Told.Failed }
+    {
         self.refused = self.refused.saturating_add(1);
         Told::Failed
     }
