@@ -14,6 +14,8 @@ SETTINGS = f'guid = "{GUID}"\nagent = "10.0.0.2"\nfilter = "{FILTER}"\n'
 DEFAULTS = bytes.fromhex(GUID) + bytes([10, 0, 0, 2]) + bytes(6) + bytes([162, 0, 162, 0, 162, 0, 1, 63, 0])
 MADE = bytes([0xA5, 1, 55, 0]) + DEFAULTS + bytes.fromhex(FILTER) + b"\x00"
 ANOTHER_CALL = "another call of the program is at work on it"
+UNFINISHED = "state: another script or capture is unfinished; finish that one first, with its own text\n"
+FORMATTED = "state: it is formatted already, and was left as it is\n"
 
 
 class Wrong(Exception):

@@ -7,7 +7,7 @@ import socket
 import subprocess
 import time
 
-from common import ANOTHER_CALL, CLOSED, MADE, SETTINGS, entry, equal, opened
+from common import ANOTHER_CALL, CLOSED, FORMATTED, MADE, SETTINGS, UNFINISHED, entry, equal, opened
 
 TRAP = bytes.fromhex(
     "306a02010004067075626c6963a45d06092b06010401986f010140040a0000020201060203040102430100303f303d060a2b06010401986f010101042f"
@@ -101,19 +101,23 @@ def refused(make):
     one.write("settings", "")
     one.check((0, "ok 0\n", ""), "init-console", "state", "settings")
     equal(one.read("state"), header(623) + b"\x00", "a console's file with the default port")
-    one.check((11, "formatted\n", ""), "init-console", "state", "settings")
+    one.check((11, "formatted\n", FORMATTED), "init-console", "state", "settings")
     one.write("settings", SETTINGS)
-    one.check((11, "formatted\n", ""), "init", "state", "settings")
-    one.check((3, "unformatted\n", "state: not formatted as a controller's state file, from octet 0 on\n"), "run", "state", "script")
-    one.check((4, "line 1\n", ""), "receive", "state", "script")
+    one.check((11, "formatted\n", FORMATTED), "init", "state", "settings")
+    one.check((3, "unformatted\n", "state: no header of a controller's state file at octet 0; is it the right file, and was it made by init?\n"), "run", "state", "script")
+    expected = "script: expected capture ID COUNT, then COUNT lines datagram ADDRESS OCTETS, then end\n"
+    one.check((4, "line 1\n", expected), "receive", "state", "script")
+    one.write("state", header(623) + opened(3) + b"\x00")
+    one.write("capture", capture([], ident=2))
+    one.check((5, "unfinished 00000001 3\n", UNFINISHED), "receive", "state", "capture")
     one.cannot("missing: No such file or directory (os error 2)", "receive", "state", "missing")
     one.cannot("missing: No such file or directory (os error 2)", "list", "missing")
     one.cannot("settings: it is the state file and the settings at once", "init-console", "settings", "settings")
     one.write("capture", capture([]))
     for content, reason in (
-        (MADE, "not formatted as a console's state file, from octet 0 on"),
-        (b"", "not formatted as a console's state file, from octet 0 on"),
-        (header(623) + CLOSED + b"\x00", "broken at octet 6: the entry there is none that may come there"),
+        (MADE, "no header of a console's state file at octet 0; is it the right file, and was it made by init-console?"),
+        (b"", "no header of a console's state file at octet 0; is it the right file, and was it made by init-console?"),
+        (header(623) + CLOSED + b"\x00", "broken at octet 6: the entry there is whole, but unknown or out of order"),
         (header(623) + b"\xa5\xff\xff", "broken at octet 6: no whole entry stands there"),
     ):
         one.write("state", content)

@@ -4,7 +4,7 @@ from itertools import product
 from common import CLOSED, MADE, SETTINGS, actions, equal, opened, said, script, state, taken
 
 WHOLE = state(opened(1), taken([1]), CLOSED)
-FORMS = "init STATE SETTINGS\ninit-console STATE SETTINGS\nrun STATE SCRIPT\nreceive STATE CAPTURE\nlive STATE ADDRESS ARRIVALS\nlisten STATE ADDRESS ARRIVALS\nshow STATE\nlist STATE\n"
+FORMS = "init STATE SETTINGS\ninit-console STATE SETTINGS\nrun STATE SCRIPT\nreceive STATE CAPTURE\nlive STATE IP:PORT ARRIVALS\nlisten STATE IP:PORT ARRIVALS\nshow STATE\nlist STATE\n"
 # where standard output is closed
 NO_OUTPUT = "standard output: writing the report: Bad file descriptor (os error 9)\n"
 

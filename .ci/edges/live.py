@@ -11,7 +11,7 @@ import subprocess
 import time
 
 import alerts
-from common import ANOTHER_CALL, Wrong, equal, opened
+from common import ANOTHER_CALL, UNFINISHED, Wrong, equal, opened
 from console import DONE, ack, arrived, header, trap
 from console import entry as entry_of
 
@@ -152,9 +152,9 @@ def refused(one):
     equal((one.folder / "missing.plant").exists(), False, "no plant's file is made beside a missing file")
     before = one.read("state")
     one.write("state", before[:6] + opened(3) + b"\x00")
-    one.check((5, "unfinished 00000001 3\n", ""), "listen", "state", "127.0.0.1:0", "1")
+    one.check((5, "unfinished 00000001 3\n", UNFINISHED), "listen", "state", "127.0.0.1:0", "1")
     one.write("state", b"")
-    one.check((3, "unformatted\n", "state: not formatted as a console's state file, from octet 0 on\n"), "listen", "state", "127.0.0.1:0", "1")
+    one.check((3, "unformatted\n", "state: no header of a console's state file at octet 0; is it the right file, and was it made by init-console?\n"), "listen", "state", "127.0.0.1:0", "1")
     one.write("state", before)
 
 
@@ -221,6 +221,6 @@ def answered(make):
         equal(arrived(wire), [], "what comes behind the acknowledgement")
         one.write("begun", "script 00000003 2\ntick\n")
         equal(one.run("run", "state", "begun")[0], 4, "a script without an end")
-        one.check((5, "unfinished 00000003 2\n", ""), "live", "state", "127.0.0.1:0", "1")
+        one.check((5, "unfinished 00000003 2\n", UNFINISHED), "live", "state", "127.0.0.1:0", "1")
         one.write("state", b"")
-        one.check((3, "unformatted\n", "state: not formatted as a controller's state file, from octet 0 on\n"), "live", "state", "127.0.0.1:0", "1")
+        one.check((3, "unformatted\n", "state: no header of a controller's state file at octet 0; is it the right file, and was it made by init?\n"), "live", "state", "127.0.0.1:0", "1")

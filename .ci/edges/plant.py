@@ -4,7 +4,7 @@ import signal
 
 from common import CLOSED, actions, equal, opened, said, script, state, taken
 
-CUT = "state: appending an action to the plant's file: "
+CUT = "the first step that failed: appending an action to the plant's file: "
 
 
 def check(make):

@@ -68,7 +68,7 @@ each() {
         *) wrong "status $status" ;;
         esac
         status=0
-        "$program" "$form" state "$2" > out || status=$?
+        "$program" "$form" state "$2" > out 2> err || status=$?
         case $form in
         run | receive)
             [ "$status" = 0 ] || wrong "the later call has status $status"

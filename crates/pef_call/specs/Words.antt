@@ -58,7 +58,7 @@ fed_paths (Some form) None arrivals = None
 fed_paths None address arrivals = None
 
 -- What the words behind the program's name ask for. The forms are `init STATE SETTINGS`, `init-console STATE SETTINGS`,
--- `run STATE SCRIPT`, `receive STATE CAPTURE`, `live STATE ADDRESS ARRIVALS`, `listen STATE ADDRESS ARRIVALS`, `show STATE` and
+-- `run STATE SCRIPT`, `receive STATE CAPTURE`, `live STATE IP:PORT ARRIVALS`, `listen STATE IP:PORT ARRIVALS`, `show STATE` and
 -- `list STATE`.
 abbrev pub paths_of : List (List ℕ) → Option Paths
 paths_of [] = None

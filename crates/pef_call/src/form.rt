@@ -13,9 +13,9 @@ pub enum Form {
     Run,
     /// `receive STATE CAPTURE` takes the datagrams of a capture, behind those taken where it was begun before.
     Receive,
-    /// `live STATE ADDRESS ARRIVALS` takes the frames that arrive at an address, and the seconds that pass, into a controller.
+    /// `live STATE IP:PORT ARRIVALS` takes the frames that arrive at an address, and the seconds that pass, into a controller.
     Live,
-    /// `listen STATE ADDRESS ARRIVALS` takes the datagrams that arrive at an address into a console's ledger.
+    /// `listen STATE IP:PORT ARRIVALS` takes the datagrams that arrive at an address into a console's ledger.
     Listen,
     /// `show STATE` shows what a controller's state file says.
     Show,
@@ -51,8 +51,8 @@ pub const FORMS: [&str; 8] = [
     "init-console STATE SETTINGS",
     "run STATE SCRIPT",
     "receive STATE CAPTURE",
-    "live STATE ADDRESS ARRIVALS",
-    "listen STATE ADDRESS ARRIVALS",
+    "live STATE IP:PORT ARRIVALS",
+    "listen STATE IP:PORT ARRIVALS",
     "show STATE",
     "list STATE",
 ];

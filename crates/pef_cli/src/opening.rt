@@ -6,8 +6,8 @@ use board_core::Address;
 use pef_call::Form;
 use real_devices::{FileBoard, FileSource, HeldFile, Plant, UdpFeed};
 
-/// Opens the other file, then the state file with its plant. A form that formats creates the state file where it is missing. Nothing is
-/// read or written.
+/// Opens the other file, then the state file with its plant. A form that formats creates the state file where it is missing. The state
+/// file is neither read nor written.
 pub fn open_files<'r, 'a>(
     rt: &'r HostRuntime,
     asked: &Asked<'a>,
@@ -30,7 +30,7 @@ pub fn open_files<'r, 'a>(
 }
 
 /// Takes the address, then opens the state file with its plant. A controller's datagrams go out from this address, and a console's from
-/// sockets of their own. Nothing is read or written.
+/// sockets of their own. The state file is neither read nor written.
 pub fn open_feed<'r, 'a>(
     rt: &'r HostRuntime,
     asked: &Asked<'a>,

@@ -24,15 +24,30 @@ pub enum Remark<'a> {
     /// The text in this file isn't a settings text of a console.
     #[error("{0}: expected a TOML document with no other key than ack_port, a whole number from 0 to 65535")]
     Console(&'a str),
+    /// The text in this file isn't a script.
+    #[error("{0}: expected script ID COUNT, then COUNT lines event, cmd, frame, tick or power, then end")]
+    Script(&'a str),
+    /// The text in this file isn't a capture.
+    #[error("{0}: expected capture ID COUNT, then COUNT lines datagram ADDRESS OCTETS, then end")]
+    Capture(&'a str),
+    /// A script or capture was begun on this state file, and isn't finished.
+    #[error("{0}: another script or capture is unfinished; finish that one first, with its own text")]
+    Unfinished(&'a str),
     /// A call on what has this name failed.
     #[error("{name}: {failure}")]
     Failed { name: &'a str, failure: Failure },
+    /// An action or a datagram failed.
+    #[error("the first step that failed: {0}")]
+    Step(Failure),
     /// This file has no room for the next entry.
-    #[error("{0}: there is no room for the next entry; a state file has at most 16,777,216 octets")]
+    #[error("{0}: there is no room for the next entry; a state file has at most 16,777,216 octets; make a new one with init")]
     Full(&'a str),
     /// This file has no room for the next entry, or the ledger none for the next row.
-    #[error("{0}: there is no room for the next entry; a console's file has at most 16,777,216 octets and 65,536 rows")]
+    #[error("{0}: there is no room for the next entry; a console's file has at most 16,777,216 octets and 65,536 rows; make a new one with init-console")]
     FullConsole(&'a str),
+    /// This file is a state file already.
+    #[error("{0}: it is formatted already, and was left as it is")]
+    Formatted(&'a str),
 }
 
 // The first failure of each device of a call.
@@ -59,7 +74,9 @@ pub fn tell<W: Write + Drop>(
         output: out.failure(),
     };
     say(rt, remark_on(rt.alloc(), asked, status, board, &failures));
-    say(rt, failed(asked.state, board.board().issue_failure()));
+    if let Some(failure) = board.board().issue_failure() {
+        say(rt, Some(Remark::Step(failure)));
+    }
 }
 
 /// Says why a call of `show` or `list` ended with its status.
@@ -88,11 +105,13 @@ fn remark_on<'a, B: Board>(
 ) -> Option<Remark<'a>> {
     match status {
         3 => unformatted(alloc, asked, board),
-        4 => settings(asked),
+        4 => expected(asked),
+        5 => Some(Remark::Unfinished(asked.state)),
         6 => failed(asked.second, failures.input),
         7 => failed(asked.state, failures.disk),
         8 => failed("standard output", failures.output),
         9 => Some(full(asked)),
+        11 => Some(Remark::Formatted(asked.state)),
         _ => None,
     }
 }
@@ -105,10 +124,10 @@ fn unformatted<'a, B: Board>(
 ) -> Option<Remark<'a>> {
     let why = match asked.form {
         Form::Init | Form::Run | Form::Live | Form::Show => {
-            why_unformatted::<Controller, B>(alloc, board, "controller")
+            why_unformatted::<Controller, B>(alloc, board, "controller", "init")
         }
         Form::InitConsole | Form::Receive | Form::Listen | Form::List => {
-            why_unformatted::<Console, B>(alloc, board, "console")
+            why_unformatted::<Console, B>(alloc, board, "console", "init-console")
         }
     };
     why.map(|why| Remark::Unformatted {
@@ -117,12 +136,14 @@ fn unformatted<'a, B: Board>(
     })
 }
 
-// Which settings text was expected, where the form reads one.
-fn settings<'a>(asked: &Asked<'a>) -> Option<Remark<'a>> {
+// Which text was expected, where the form reads one.
+fn expected<'a>(asked: &Asked<'a>) -> Option<Remark<'a>> {
     match asked.form {
         Form::Init => Some(Remark::Controller(asked.second)),
         Form::InitConsole => Some(Remark::Console(asked.second)),
-        Form::Run | Form::Receive | Form::Live | Form::Listen | Form::Show | Form::List => None,
+        Form::Run => Some(Remark::Script(asked.second)),
+        Form::Receive => Some(Remark::Capture(asked.second)),
+        Form::Live | Form::Listen | Form::Show | Form::List => None,
     }
 }
 

@@ -9,26 +9,34 @@ use thiserror::Error;
 #[derive(Clone, Copy, Debug, PartialEq, Eq, Error)]
 pub enum Unformatted {
     /// It has no header of one.
-    #[error("not formatted as a {machine}'s state file, from octet 0 on")]
-    Header { machine: &'static str },
+    #[error("no header of a {machine}'s state file at octet 0; is it the right file, and was it made by {init}?")]
+    Header {
+        machine: &'static str,
+        init: &'static str,
+    },
     /// No whole entry stands here.
     #[error("broken at octet {at}: no whole entry stands there")]
-    Broken { at: u64 },
+    Broken {
+        at: u64,
+    },
     /// The entry that stands here is unknown, or may not come behind those before it.
-    #[error("broken at octet {at}: the entry there is none that may come there")]
-    Misplaced { at: u64 },
+    #[error("broken at octet {at}: the entry there is whole, but unknown or out of order")]
+    Misplaced {
+        at: u64,
+    },
 }
 
-/// Looks for the place again, as the machine of this name reads the file. None where the file could not be read, or there was no
-/// memory. Writes nothing.
+/// Looks for the place again, as the machine of this name reads the file that this form of `init` makes. None where the file could not be
+/// read, or there was no memory. Writes nothing.
 pub fn why_unformatted<M: Machine, B: Board>(
     alloc: Global,
     board: &mut B,
     machine: &'static str,
+    init: &'static str,
 ) -> Option<Unformatted> {
     match Engine::<M>::open(alloc, board) {
         Ok(_) => None,
-        Err(EngineFault::NotFormatted) => Some(Unformatted::Header { machine }),
+        Err(EngineFault::NotFormatted) => Some(Unformatted::Header { machine, init }),
         Err(EngineFault::Corrupt { at }) => why_corrupt::<M, B>(board, at),
         Err(_) => None,
     }
