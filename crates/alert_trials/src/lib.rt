@@ -1,0 +1,9 @@
+//! Worked cases, in tests alone. Attempts, jobs and the alerts of a record: each table against values worked out by hand.
+#![tactic(auto)]
+
+#[cfg(test)]
+mod alerts;
+#[cfg(test)]
+mod attempts;
+#[cfg(test)]
+mod jobs;
