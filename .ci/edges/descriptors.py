@@ -10,7 +10,7 @@ NO_OUTPUT = "standard output: writing the report: Bad file descriptor (os error 
 
 
 def check(make):
-    """Every combination with every form."""
+    """Every combination with init, with run, and with words that are no form."""
     for which in product((False, True), repeat=3):
         closed = [number for number in range(3) if which[number]]
         one = make()

@@ -3,7 +3,7 @@
 # make the same table of 128 frames, LAN messages of up to 64 octets of data, pings and pongs, of which every fifth has a changed
 # octet; the table hangs on the number of rounds, so that no compiler knows an octet of it, and the readers aren't inlined. Each
 # frame is read as a packet and as a message, and the sum of what was read and refused has to be the same.
-# Outside the merge gate, which takes no main.rt outside a crate: the program is main.rattle. It is proved and built in a
+# Its quick mode runs behind the merge gate, which takes no main.rt outside a crate: the program is main.rattle. It is proved and built in a
 # temporary folder, and kept in out/ as long as no source changes. Of five runs of each, in turn, the least
 # processor time counts.
 # usage: run.sh [--quick]      --quick: a tenth of the frames, in one run each

@@ -1,7 +1,7 @@
 #!/usr/bin/env bash
 # Filters a second of `matches` on one core, beside a plain C loop (gcc -O2) with the same conditions, over a table of sixteen filters: the usual
 # case, where the sensor type decides, and the worst, where the last test of event data decides.
-# Outside the merge gate, which takes no main.rt outside a crate: the program is main.rattle. It proves and builds a copy in a temporary folder, and takes the least processor time of five runs.
+# Its quick mode runs behind the merge gate, which takes no main.rt outside a crate: the program is main.rattle. It proves and builds a copy in a temporary folder, and takes the least processor time of five runs.
 # usage: run.sh [--quick]      --quick takes a tenth of the events
 set -eu
 events=20000000

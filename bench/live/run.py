@@ -1,7 +1,7 @@
 #!/usr/bin/env python3
 """What the network forms do on loopback: traps a second with each one on the disk, beside a plain loop in C, and hostile datagrams.
 
-It builds no Rattle: it takes crates/pef_cli/out/pef_cli, which ./demo at the top proves and builds. Outside the merge gate.
+It builds no Rattle: it takes crates/pef_cli/out/pef_cli, which ./demo at the top proves and builds. Its quick mode runs behind the merge gate.
 
 - `listen` gets traps from a sender that waits for the acknowledgement of each one, so nothing may be lost. Of each trap two entries are
   stored, with two syncs each, before the next one comes in; the loop (bench/run/appends.c) makes as many synced appends. The two take

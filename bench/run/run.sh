@@ -1,6 +1,6 @@
 #!/usr/bin/env bash
 # How fast `run` stores entries, beside a plain C loop that makes as many synced appends, and how fast it opens a state file.
-# Outside the merge gate. It builds no Rattle: it takes crates/pef_cli/out/pef_cli, which ./demo at the top proves and builds.
+# Its quick mode runs behind the merge gate. It builds no Rattle: it takes crates/pef_cli/out/pef_cli, which ./demo at the top proves and builds.
 # The two take turns in rounds, short ones on the disk, whose pace swings; the medians of the rounds count, and the median of their
 # ratios. Times are of whole processes, but of the C loop alone; entries are counted by the report's lines, less the last.
 # usage: run.sh [DISK_ENTRIES] [MEMORY_ENTRIES]      so many in a round; DISK names the folder on the disk, else it is this repository

@@ -1,6 +1,6 @@
 #!/usr/bin/env bash
 # Messages a second of `decode` on one core, beside a loop in C (gcc -O2) that reads the same grammar.
-# Outside the merge gate, which takes no main.rt outside a crate: the program is main.rattle. It proves and builds a copy in a temporary folder, and takes the least processor time of five runs.
+# Its quick mode runs behind the merge gate, which takes no main.rt outside a crate: the program is main.rattle. It proves and builds a copy in a temporary folder, and takes the least processor time of five runs.
 # usage: run.sh [--quick]      the quick mode proves nothing, reads few messages, and compares the two sums alone; it runs behind the gate
 set -eu
 quick=
