@@ -1,4 +1,4 @@
-//! Worked cases, in tests alone. Attempts, jobs and the alerts of a record: each table against values worked out by hand.
+//! Worked cases, in tests alone. Destinations, attempts, jobs and the alerts of a record: each table against values worked out by hand.
 #![tactic(auto)]
 
 #[cfg(test)]
@@ -7,3 +7,5 @@ mod alerts;
 mod attempts;
 #[cfg(test)]
 mod jobs;
+#[cfg(test)]
+mod lan;

@@ -1,13 +1,9 @@
-//! Worked cases, in tests alone. Traps, bodies, frames and answers: each table against values worked out by hand.
+//! Worked cases, in tests alone. Traps, their bodies and alert traps: each table against values worked out by hand.
 #![tactic(auto)]
 
 #[cfg(test)]
 mod alerts;
 #[cfg(test)]
-mod answers;
-#[cfg(test)]
 mod bodies;
-#[cfg(test)]
-mod frames;
 #[cfg(test)]
 mod traps;
