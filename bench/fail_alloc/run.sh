@@ -1,7 +1,7 @@
 #!/usr/bin/env bash
 # Lets each allocation of the proved program fail in turn, on real files, and shows what `init`, `run`, `init-console` and `receive`
 # answered; and each one of its test of want of memory, on a board in memory.
-# It builds no Rattle: it takes crates/pef_cli/out/pef_cli, which ./demo at the top proves and builds, and the tests of crates/pef_call,
+# It builds no Rattle: it takes crates/pef_cli/out/pef_cli, which ./demo at the top proves and builds, and the tests of crates/edge_trials,
 # which `rt test` builds there.
 # usage: run.sh [--quick]      the quick mode leaves the test out and runs behind the merge gate
 # Whatever fails: at status 10 and 1 the files are as they were, but at 10 of `receive`, which takes memory for each row; and a later
@@ -12,9 +12,9 @@ quick=
 here=$(cd "$(dirname "$0")" && pwd)
 top=$(cd "$here/../.." && pwd)
 program=$top/crates/pef_cli/out/pef_cli
-tests=$top/crates/pef_call/out/pef_call_tests
+tests=$top/crates/edge_trials/out/edge_trials_tests
 [ -x "$program" ] || { echo "$program is missing: ./demo at the top proves and builds it" >&2; exit 1; }
-[ -n "$quick" ] || [ -x "$tests" ] || { echo "$tests is missing: rt test in crates/pef_call proves and builds it" >&2; exit 1; }
+[ -n "$quick" ] || [ -x "$tests" ] || { echo "$tests is missing: rt test in crates/edge_trials proves and builds it" >&2; exit 1; }
 work=$(mktemp -d)
 trap 'rm -rf "$work"' EXIT
 gcc -O2 -shared -fPIC -o "$work/fail.so" "$here/fail.c"
@@ -58,6 +58,7 @@ each() {
             return
         fi
         echo "$form: allocation $number fails: status $status: $(cat out err | paste -s -d ' ')"
+        [ "$status" != 10 ] || grep -qx memory out err || wrong "neither output says memory"
         case $form,$status in
         *,0 | *,7 | *,8 | receive,10) ;;
         run,1 | run,10 | receive,1)
@@ -92,7 +93,7 @@ each receive capture.txt made_ledger whole_ledger
 form=test
 for number in $(seq 1 1000); do
     rm -f failed
-    FAIL_ALLOC=$number FAIL_ALLOC_LOG=failed LD_PRELOAD=$work/fail.so "$tests" tests::memory::behind_want_of_memory_a_later_run_goes_on > out 2>&1 ||
+    FAIL_ALLOC=$number FAIL_ALLOC_LOG=failed LD_PRELOAD=$work/fail.so "$tests" calls::memory::behind_want_of_memory_a_later_run_goes_on > out 2>&1 ||
         wrong "$(cat out)"
     if [ ! -e failed ]; then
         echo "test: $((number - 1)) allocations, each of which failed once, and the test passed"

@@ -6,25 +6,19 @@ ghost use Rattle.pef_call.specs.Init.{fault_ending, fault_of, settings_fault_of}
 use board_core::DiskFailed;
 use report_line::{Ending, SettingsRefusal};
 use script_text::{SettingsFault, TextFault};
-use thiserror::Error;
 
 /// What keeps `init` from making the file.
-#[derive(Clone, Copy, Debug, PartialEq, Eq, Error)]
+#[derive(Clone, Copy, Debug, PartialEq, Eq)]
 pub enum InitFault {
     /// The settings text is refused, and why.
-    #[error("the settings text is refused")]
     Settings(SettingsRefusal),
     /// The settings could not be read.
-    #[error("the settings could not be read")]
     Input,
     /// The disk failed.
-    #[error("the disk failed")]
     Disk,
     /// There was no memory to hold the settings text.
-    #[error("there is no memory for the settings text")]
     Memory,
     /// The file is formatted already.
-    #[error("the file is formatted already")]
     Formatted,
 }
 

@@ -17,6 +17,3 @@ mod words;
 pub use form::{FORMS, Form, Paths};
 pub use program::top;
 pub use words::paths;
-
-#[cfg(test)]
-mod tests;

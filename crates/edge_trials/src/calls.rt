@@ -1,15 +1,14 @@
-// What the trials of calls can't say: files and texts that fill all room, odd words and lines, out of memory, a crash behind a crash,
-// the law of two runs, and the texts of faults.
+// What the trials of calls can't say: files and texts that fill all room, odd words and lines, out of memory, a crash behind a crash, and
+// the law of two runs.
 mod again;
-mod fault;
 mod full;
 mod full_console;
 mod lives;
 mod memory;
 mod odd;
 
-use crate::program::top;
 use board_core::{Act, MemBoard, MemFeed, MemSink, MemSource, Sent, Step};
+use pef_call::top;
 use std::alloc::{AllocError, Global};
 
 // The header of a controller's file, these settings with the defaults, and a closed gate.

@@ -1,8 +1,7 @@
 // What no line of a trial says: where the words of a form stand, words with blanks, a long text, carriage returns, a full log.
 use super::{CLOSED, DONE, EVENT, MADE, OPENED, call, file_with, words_in};
-use crate::form::{Form, Paths};
-use crate::words::paths;
 use board_core::MemBoard;
+use pef_call::{Form, Paths, paths};
 use std::alloc::{AllocError, Global};
 use std::test::Fail;
 
