@@ -1,6 +1,6 @@
 #!/usr/bin/env bash
 # Lets each allocation of the proved program fail in turn, on real files, and shows what `init`, `run`, `init-console` and `receive`
-# answered; and each one of its test of want of memory, on a board in memory.
+# answered; and each one of the test that runs out of memory, on a board in memory.
 # It builds no Rattle: it takes crates/pef_cli/out/pef_cli, which ./demo at the top proves and builds, and the tests of crates/edge_trials,
 # which `rt test` builds there.
 # usage: run.sh [--quick]      the quick mode leaves the test out and runs behind the merge gate
